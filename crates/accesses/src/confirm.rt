@@ -16,7 +16,7 @@ use std::alloc::{AllocError, Global};
 /// What is claimed of the journals of two runs of a design: that two entries of the first one are a pair, and that the second one has
 /// their order turned.
 #[derive(Clone, Copy)]
-pub struct Claim<'a> {
+pub struct ExchangeClaim<'a> {
     pub alloc: Global,
     pub design: &'a Design,
     pub journal: &'a [Entry],
@@ -24,7 +24,7 @@ pub struct Claim<'a> {
     pub pair: Pair,
 }
 
-impl<'a> Claim<'a> {
+impl<'a> ExchangeClaim<'a> {
     // The two entries in the first journal, if no change of the regions comes between them and they do there what the pair says.
     fn seen_pair(self) -> Result<Option<Split<'a>>, AllocError>
         ensures { IfOk result (λ seen. IfSome seen (λ s. IsSeenPair (design_of self.entry.design.now) self.entry.journal.now s.before.now s.segment.now s.one s.other self.entry.pair)) }

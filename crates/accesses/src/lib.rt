@@ -7,7 +7,7 @@
 //!    they come the other way round; where one of them finishes the run, one journal may have it alone.
 //! 4. `observer` leads a machine to both and sees whether they do it, and `confirm` asks it of both journals.
 //!
-//! What the layer above uses: `lead`, `are_same`, and the contract of `Claim::is_confirmed`, `is_cut_off` and `is_held_back`, whose
+//! What the layer above uses: `lead`, `are_same`, and the contract of `ExchangeClaim::is_confirmed`, `is_cut_off` and `is_held_back`, whose
 //! `HasBothOrders` of `specs/Roles` speaks of the journals alone.
 #![tactic(auto)]
 
@@ -18,7 +18,7 @@ mod pair;
 mod role;
 mod split;
 
-pub use confirm::Claim;
+pub use confirm::ExchangeClaim;
 pub use observer::lead;
 pub use pair::Pair;
 pub use role::{Does, Role, Site};

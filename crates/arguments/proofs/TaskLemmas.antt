@@ -13,7 +13,7 @@ use Rattle.arguments.specs.declared.request.Request.TheVariants as request
 use Rattle.arguments.specs.declared.command_task.CommandTask.{CommandTask}
 use Rattle.arguments.specs.declared.command_task.CommandTask.TheVariants as task
 use Rattle.arguments.specs.Arguments.{FollowsRule, Gives, HasRules, flag_parser, flag_rule, parameters_of, rule, rule_for, rules_of, workers_parser, until_parser, entries_parser, seed_parser}
-use Rattle.arguments.specs.CommandWords.{Asks, AsksTwoOrders, Begins, FailsAs, IsAskedBy, IsRunOf, IsReplayOf, IsRacesOf, IsCheckOf, IsExplainOf, IsWavesOf, app_by, argument_of, bare_app, every_task, faults_by, rows_by, with_arguments, with_tasks, word_of, run_app, replay_app, races_app, check_app, explain_app, waves_app, whole_app, run_rows, replay_rows, races_rows, check_rows, explain_rows, waves_rows, run_faults, replay_faults, races_faults, check_faults, explain_faults, waves_faults}
+use Rattle.arguments.specs.CommandWords.{Asks, AsksTwoOrders, Begins, FailsAs, IsAskedBy, IsRunOf, IsReplayOf, IsRacesOf, IsCheckOf, IsExplainOf, IsWavesOf, app_by, argument_of, bare_app, every_task, faults_by, rows_by, with_arguments, with_tasks, word_of_task, run_app, replay_app, races_app, check_app, explain_app, waves_app, whole_app, run_rows, replay_rows, races_rows, check_rows, explain_rows, waves_rows, run_faults, replay_faults, races_faults, check_faults, explain_faults, waves_faults}
 use Rattle.arguments.proofs.GivenLemmas.{given, one_more, required_text}
 use Rattle.arguments.proofs.WordLemmas.{run_fails, replay_fails, races_fails, check_fails, explain_fails, waves_fails, two_orders_fail}
 
@@ -27,7 +27,7 @@ with_tasks_more : (app : App) (ts : List CommandTask) (t : CommandTask) → with
 with_tasks_more app [] t = refl
 with_tasks_more app (u ∷ ts) t = with_tasks_more (with_subcommand app (app_by u).top) ts t
 
-pub task_app : (asked : CommandTask) → with_arguments (new_app (word_of asked)) (parameters_of asked) ≡ app_by asked
+pub task_app : (asked : CommandTask) → with_arguments (new_app (word_of_task asked)) (parameters_of asked) ≡ app_by asked
 unfolding run_app replay_app races_app check_app explain_app waves_app
 task_app task.Run = refl
 task_app task.Replay = refl
@@ -100,7 +100,7 @@ task_gives task.Waves cmd m p h = record {
 
 -- what that says of the words
 
-pub task_fails : (asked : CommandTask) (words own : List Text) (e : Error) → Begins words (word_of asked) → own ≡ drop 1 words → HasKind (faults_by asked own) e
+pub task_fails : (asked : CommandTask) (words own : List Text) (e : Error) → Begins words (word_of_task asked) → own ≡ drop 1 words → HasKind (faults_by asked own) e
     → FailsAs words (kind_of e)
 unfolding run_faults replay_faults races_faults check_faults explain_faults waves_faults
 task_fails task.Run words own e begins same h = run_fails words own e begins same h
@@ -110,54 +110,54 @@ task_fails task.Check words own e begins same h = check_fails words own e begins
 task_fails task.Explain words own e begins same h = explain_fails words own e begins same h
 task_fails task.Waves words own e begins same h = waves_fails words own e begins same h
 
-pub task_asks : (asked : CommandTask) (words own : List Text) (rows : List Row) (r : Request) → Begins words (word_of asked) → own ≡ drop 1 words → rows ≡ rows_by asked own
+pub task_asks : (asked : CommandTask) (words own : List Text) (rows : List Row) (r : Request) → Begins words (word_of_task asked) → own ≡ drop 1 words → rows ≡ rows_by asked own
     → IsAskedBy asked rows r → Asks words r
 unfolding run_rows replay_rows races_rows check_rows explain_rows waves_rows
 task_asks asked words own rows (request.Run run) begins same found (e, is) = record {
-  begins = subst (λ (t : CommandTask). Begins words (word_of t)) e begins;
+  begins = subst (λ (t : CommandTask). Begins words (word_of_task t)) e begins;
   is_run = subst (λ (r : List Row). IsRunOf r run) (found ∙ (ap (λ (t : CommandTask). rows_by t own) e ∙ ap (rows_by task.Run) same)) is;
 }
 task_asks asked words own rows (request.Replay replay) begins same found (e, is) = record {
-  begins = subst (λ (t : CommandTask). Begins words (word_of t)) e begins;
+  begins = subst (λ (t : CommandTask). Begins words (word_of_task t)) e begins;
   is_replay = subst (λ (r : List Row). IsReplayOf r replay) (found ∙ (ap (λ (t : CommandTask). rows_by t own) e ∙ ap (rows_by task.Replay) same)) is;
 }
 task_asks asked words own rows (request.Races races) begins same found (e, is) = record {
-  begins = subst (λ (t : CommandTask). Begins words (word_of t)) e begins;
+  begins = subst (λ (t : CommandTask). Begins words (word_of_task t)) e begins;
   is_races = subst (λ (r : List Row). IsRacesOf r races) (found ∙ (ap (λ (t : CommandTask). rows_by t own) e ∙ ap (rows_by task.Races) same)) is;
 }
 task_asks asked words own rows (request.Check check) begins same found (e, is) = record {
-  begins = subst (λ (t : CommandTask). Begins words (word_of t)) e begins;
+  begins = subst (λ (t : CommandTask). Begins words (word_of_task t)) e begins;
   is_check = subst (λ (r : List Row). IsCheckOf r check) (found ∙ (ap (λ (t : CommandTask). rows_by t own) e ∙ ap (rows_by task.Check) same)) is;
 }
 task_asks asked words own rows (request.Explain explain) begins same found (e, is) = record {
-  begins = subst (λ (t : CommandTask). Begins words (word_of t)) e begins;
+  begins = subst (λ (t : CommandTask). Begins words (word_of_task t)) e begins;
   is_explain = subst (λ (r : List Row). IsExplainOf r explain) (found ∙ (ap (λ (t : CommandTask). rows_by t own) e ∙ ap (rows_by task.Explain) same)) is;
 }
 task_asks asked words own rows (request.Waves waves) begins same found (e, is) = record {
-  begins = subst (λ (t : CommandTask). Begins words (word_of t)) e begins;
+  begins = subst (λ (t : CommandTask). Begins words (word_of_task t)) e begins;
   is_waves = subst (λ (r : List Row). IsWavesOf r waves) (found ∙ (ap (λ (t : CommandTask). rows_by t own) e ∙ ap (rows_by task.Waves) same)) is;
 }
 task_asks asked words own rows request.Version begins same found h = absurd h
 
-pub task_two_orders : (asked : CommandTask) (words own : List Text) (rows : List Row) (e : Error) → Begins words (word_of asked) → own ≡ drop 1 words → rows ≡ rows_by asked own
+pub task_two_orders : (asked : CommandTask) (words own : List Text) (rows : List Row) (e : Error) → Begins words (word_of_task asked) → own ≡ drop 1 words → rows ≡ rows_by asked own
     → AsksTwoOrders asked rows (kind_of e) → FailsAs words (kind_of e)
 unfolding run_rows
 task_two_orders asked words own rows e begins same found (is_run, two, kind) =
-    two_orders_fail words own rows e (subst (λ (t : CommandTask). Begins words (word_of t)) is_run begins) same
+    two_orders_fail words own rows e (subst (λ (t : CommandTask). Begins words (word_of_task t)) is_run begins) same
     (found ∙ ap (λ (t : CommandTask). rows_by t own) is_run) two kind
 
 -- one word or option more
 pub argument_more : (asked : CommandTask) (taken : List Parameter) (i : ℕ) (p : Parameter) (c d : Command) (a : Arg)
     → take (i + 1) taken ≡ take i taken ++ p ∷ [] → FollowsRule a (rule_for p) → rule_of a ≡ argument_of p → AddsArg c a d
-    → HasRules c (map rule_for (take i taken)) → app_of c ≡ with_arguments (new_app (word_of asked)) (take i taken)
-    → HasRules d (map rule_for (take (i + 1) taken)) × (app_of d ≡ with_arguments (new_app (word_of asked)) (take (i + 1) taken))
+    → HasRules c (map rule_for (take i taken)) → app_of c ≡ with_arguments (new_app (word_of_task asked)) (take i taken)
+    → HasRules d (map rule_for (take (i + 1) taken)) × (app_of d ≡ with_arguments (new_app (word_of_task asked)) (take (i + 1) taken))
 argument_more asked taken i p c d a more takes is added rules app =
     let list : map rule_for (take (i + 1) taken) ≡ map rule_for (take i taken) ++ rule_for p ∷ [] =
     ap (map rule_for) more ∙ map-append rule_for (take i taken) (p ∷ []) in (
       subst (HasRules d) (sym list) (one_more c d a (map rule_for (take i taken)) (rule_for p) rules takes added),
       added.shape takes.local
           ∙ (ap₂ with_rule app is
-          ∙ (sym (with_arguments_more (new_app (word_of asked)) (take i taken) p) ∙ ap (with_arguments (new_app (word_of asked))) (sym more))),
+          ∙ (sym (with_arguments_more (new_app (word_of_task asked)) (take i taken) p) ∙ ap (with_arguments (new_app (word_of_task asked))) (sym more))),
     )
 
 -- one command more
@@ -173,19 +173,19 @@ task_more tasks i t c d next more rules is added app =
 -- none of these tasks is
 abbrev pub NoneBegins : List Text → List CommandTask → Type 0
 NoneBegins words [] = Unit {0}
-NoneBegins words (t ∷ ts) = (Begins words (word_of t) → ⊥) × NoneBegins words ts
+NoneBegins words (t ∷ ts) = (Begins words (word_of_task t) → ⊥) × NoneBegins words ts
 
-none_then : (words : List Text) (ts : List CommandTask) (t : CommandTask) → NoneBegins words ts → (Begins words (word_of t) → ⊥) → NoneBegins words (ts ++ t ∷ [])
+none_then : (words : List Text) (ts : List CommandTask) (t : CommandTask) → NoneBegins words ts → (Begins words (word_of_task t) → ⊥) → NoneBegins words (ts ++ t ∷ [])
 none_then words [] t before unasked = (unasked, tt)
 none_then words (u ∷ ts) t before unasked = (before.0, none_then words ts t before.1 unasked)
 
 -- nor one more
 pub none_more : (words : List Text) (tasks : List CommandTask) (i : ℕ) (t : CommandTask) → take (i + 1) tasks ≡ take i tasks ++ t ∷ []
-    → (Begins words (word_of t) → ⊥) → NoneBegins words (take i tasks) → NoneBegins words (take (i + 1) tasks)
+    → (Begins words (word_of_task t) → ⊥) → NoneBegins words (take i tasks) → NoneBegins words (take (i + 1) tasks)
 none_more words tasks i t more unasked before = subst (NoneBegins words) (sym more) (none_then words (take i tasks) t before unasked)
 
 -- nor any other, where they are all
-pub none_of_every : (words : List Text) (asked : CommandTask) → NoneBegins words every_task → Begins words (word_of asked) → ⊥
+pub none_of_every : (words : List Text) (asked : CommandTask) → NoneBegins words every_task → Begins words (word_of_task asked) → ⊥
 none_of_every words task.Run none = none.0
 none_of_every words task.Replay none = none.1.0
 none_of_every words task.Races none = none.1.1.0

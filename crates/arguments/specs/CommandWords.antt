@@ -255,17 +255,17 @@ abbrev pub Begins : List Text → Text → Type 0
 Begins words name = slice_get words 1 ≡ Some name
 
 -- the word that asks for a task
-abbrev pub word_of : CommandTask → Text
-word_of task.Run = codes "run"
-word_of task.Replay = codes "replay"
-word_of task.Races = codes "races"
-word_of task.Check = codes "check"
-word_of task.Explain = codes "explain"
-word_of task.Waves = codes "waves"
+abbrev pub word_of_task : CommandTask → Text
+word_of_task task.Run = codes "run"
+word_of_task task.Replay = codes "replay"
+word_of_task task.Races = codes "races"
+word_of_task task.Check = codes "check"
+word_of_task task.Explain = codes "explain"
+word_of_task task.Waves = codes "waves"
 
 -- the word after the program's name asks for no task
 abbrev pub AsksNoTask : List Text → Type 0
-AsksNoTask words = ((asked : CommandTask) → Begins words (word_of asked) → ⊥) × (Begins words (codes "--version") → ⊥)
+AsksNoTask words = ((asked : CommandTask) → Begins words (word_of_task asked) → ⊥) × (Begins words (codes "--version") → ⊥)
 
 -- this run is asked for: of FILE, with these options, which are in range, by this seed or else on workers, and for its journal
 -- in OUT where that is given

@@ -1,7 +1,7 @@
 //! The tasks of the program, each of which one word asks for.
 
 ghost use Rattle.std.specs.Prelude.{◌≡◌};
-ghost use Rattle.arguments.specs.CommandWords.{every_task, word_of};
+ghost use Rattle.arguments.specs.CommandWords.{every_task, word_of_task};
 
 /// What the word after the program's name may ask for, besides the program's version.
 #[derive(Clone, Copy)]
@@ -31,7 +31,7 @@ impl CommandTask {
 
     /// The word that asks for it.
     pub fn word<'a>(self) -> &'a str
-        ensures { result.now ≡ word_of self }
+        ensures { result.now ≡ word_of_task self }
     {
         match self {
             CommandTask::Run => "run",

@@ -4,7 +4,7 @@ ghost use Rattle.std.specs.Prelude.{◌≡◌, [], IfErr, IfOk};
 ghost use Rattle.clap.specs.Words.{HasKind, IsAmong, app_of, found_of, kind_of, new_app, rows_of};
 ghost use Rattle.clap.specs.declared.error.kind.ErrorKind.TheVariants.{ArgumentConflict, MissingSubcommand};
 ghost use Rattle.arguments.specs.Arguments.{Gives, HasRules, rules_of};
-ghost use Rattle.arguments.specs.CommandWords.{app_by, bare_app, faults_by, other_faults, rows_by, texts_of, whole_app, word_of};
+ghost use Rattle.arguments.specs.CommandWords.{app_by, bare_app, faults_by, other_faults, rows_by, texts_of, whole_app, word_of_task};
 
 use crate::command_task::CommandTask;
 use crate::parameters::argument;
@@ -89,7 +89,7 @@ fn command<'a>(alloc: Global, task: CommandTask) -> Result<Command<'a>, AllocErr
 /// The command of a task, with no words and options yet.
 fn bare_command<'a>(alloc: Global, task: CommandTask) -> Result<Command<'a>, AllocError>
     ensures rules { IfOk result (λ c. HasRules c []) }
-    ensures app { IfOk result (λ c. app_of c ≡ new_app (word_of task)) }
+    ensures app { IfOk result (λ c. app_of c ≡ new_app (word_of_task task)) }
 {
     Command::new(alloc, task.word())
         .about(task.about())

@@ -8,7 +8,7 @@ ghost use Rattle.std.specs.Prelude.{◌≡◌, ◌⊎◌, IfErr, IfOk, IfSome, N
 ghost use Rattle.clap.specs.Words.{found_of, kind_of, rows_of};
 ghost use Rattle.clap.specs.declared.error.kind.ErrorKind.TheVariants.{ArgumentConflict, MissingSubcommand, OutOfMemory};
 ghost use Rattle.arguments.specs.Arguments.{Gives, GivesRun};
-ghost use Rattle.arguments.specs.CommandWords.{Asks, AsksNoTask, AsksTwoOrders, Begins, FailsAs, IsAskedBy, IsNoRequest, IsNoRequestBy, texts_of, word_of};
+ghost use Rattle.arguments.specs.CommandWords.{Asks, AsksNoTask, AsksTwoOrders, Begins, FailsAs, IsAskedBy, IsNoRequest, IsNoRequestBy, texts_of, word_of_task};
 ghost use Rattle.arguments.specs.declared.command_task.CommandTask.{CommandTask};
 ghost use Rattle.arguments.specs.declared.command_task.CommandTask.TheVariants.{Run};
 
@@ -64,8 +64,8 @@ fn parse<'a>(alloc: Global, words: &'a [String]) -> Result<Request<'a>, Error>
 
 /// The task that the word after the program's name asks for.
 fn asked_task(words: &[String]) -> Option<CommandTask>
-    ensures some { IfSome result (λ task. Begins (texts_of words.now) (word_of task)) }
-    ensures none { result ≡ None → (asked : CommandTask) → Begins (texts_of words.now) (word_of asked) → ⊥ }
+    ensures some { IfSome result (λ task. Begins (texts_of words.now) (word_of_task task)) }
+    ensures none { result ≡ None → (asked : CommandTask) → Begins (texts_of words.now) (word_of_task asked) → ⊥ }
 {
     let tasks = CommandTask::every();
     for task in tasks {
@@ -82,7 +82,7 @@ fn parse_task<'a>(
     task: CommandTask,
     words: &'a [String],
 ) -> Result<Request<'a>, Error>
-    requires { Begins (texts_of words.now) (word_of task) }
+    requires { Begins (texts_of words.now) (word_of_task task) }
     ensures asked { IfOk result (Asks (texts_of words.now)) }
     ensures failed { IfErr result (λ e. FailsAs (texts_of words.now) (kind_of e)) }
 {

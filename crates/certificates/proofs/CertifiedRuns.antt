@@ -3,7 +3,7 @@ use Rattle.std.proofs.Common.{◌≡◌, ℕ, List, [], ◌∷◌, Some, ap, sub
 use Rattle.model.specs.Design.{Design}
 use Rattle.model.specs.States.{Evaluate, State}
 use Rattle.loose.specs.declared.transition.LooseTransition.{LooseTransition}
-use Rattle.traces.specs.Traces.{Runs}
+use Rattle.traces.specs.Traces.{IsRunOfMoves}
 use Rattle.traces.specs.Certificates.{IsCertificate}
 use Rattle.traces.proofs.Certificates.{certificate_stands_for_all}
 use Rattle.footprints.specs.Footprints.{Footprint}
@@ -29,7 +29,7 @@ next_has_one : (class : ℕ → ℕ) (design : Design) (s t : OrderedState) (a :
 next_has_one class design s t a f one (entry, x, step, owner, leads) p =
     subst (λ z. HasOneEvent z p) leads (step_keeps class design s.0 entry x p s.1 step.0 (one p))
 
-certificate_of : (class : ℕ → ℕ) (design : Design) (w : List (LooseTransition × Footprint)) (s t : OrderedState) → EachHasOne s.0 → Runs (loose_moves class design) s w t → AreCertified class design w
+certificate_of : (class : ℕ → ℕ) (design : Design) (w : List (LooseTransition × Footprint)) (s t : OrderedState) → EachHasOne s.0 → IsRunOfMoves (loose_moves class design) s w t → AreCertified class design w
     → IsCertificate (loose_moves class design) s w t
 certificate_of class design [] s t one run certified = run
 certificate_of class design (x ∷ w) s t one (m, step, later) (free, each, certified) = (

@@ -21,7 +21,7 @@ use Rattle.orders.proofs.EventLists.{evaluations-append, evaluations-taken, own_
 use Rattle.orders.proofs.Scheduling.{waits_now, waits_at}
 use Rattle.loose.specs.Loose.{loose_step, loose_run_from, loose_run}
 use Rattle.loose.proofs.LooseSteps.{loose_step_keeps_order}
-use Rattle.footprints.specs.Footprints.{ValueChange, Footprint, matches_any}
+use Rattle.footprints.specs.Footprints.{RegisterChange, Footprint, matches_any}
 use Rattle.footprints.specs.FootprintLaws.{IsStepWith}
 use Rattle.footprints.proofs.Waking.{awake, woken_from, wakes_process, evaluations_made, made_evaluations, one_where, asleep, woken_is}
 use Rattle.footprints.proofs.Deeds.{Deed, Done, placed, changes_by, turn_deed, update_deed, turned_is_done, updated_is_done}
@@ -55,7 +55,7 @@ woken_waits : (b : Bool) (x : Continuation) → (b ≡ true → has_any x.trigge
 woken_waits true x h = ap one_where (sym (h refl))
 woken_waits false x h = omega arith
 
-waits_if_woken : (ts : List Trigger) (cs : List ValueChange) → matches_any ts cs ≡ true → has_any ts ≡ true
+waits_if_woken : (ts : List Trigger) (cs : List RegisterChange) → matches_any ts cs ≡ true → has_any ts ≡ true
 waits_if_woken [] cs h = absurd (never_true (matches_any [] cs) h (asleep cs))
 waits_if_woken (t ∷ ts) cs h = refl
 

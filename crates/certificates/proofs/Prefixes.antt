@@ -17,7 +17,7 @@ use Rattle.model.specs.Texts.{EndsHere}
 use Rattle.loose.specs.declared.transition.LooseTransition.{LooseTransition}
 use Rattle.loose.specs.declared.transition.LooseTransition.TheVariants.{Process, FirstOf}
 use Rattle.loose.specs.Loose.{AlikeIn, loose_step, loose_run_from}
-use Rattle.traces.specs.Traces.{Moves, Runs, printed}
+use Rattle.traces.specs.Traces.{Moves, IsRunOfMoves, printed_by_steps}
 use Rattle.traces.specs.Certificates.{IsCertificate}
 use Rattle.traces.proofs.Certificates.{goes_on_from, steps_on}
 use Rattle.footprints.specs.Footprints.{Footprint}
@@ -139,7 +139,7 @@ module _ (class : ℕ → ℕ) (design : Design) where
   short_if s p ActivateMonitor x f d acts owner long = acts
   short_if s p (Advance time) x f d acts owner long = acts
 
-  no_long_turn : (s t u : OrderedState) (v w : List (LooseTransition × Footprint)) (p : ℕ) → IsCertificate moves s v t → NobodyWaits class t.0 → Runs moves s w u → HasLongTurn design u.0 p → ⊥
+  no_long_turn : (s t u : OrderedState) (v w : List (LooseTransition × Footprint)) (p : ℕ) → IsCertificate moves s v t → NobodyWaits class t.0 → IsRunOfMoves moves s w u → HasLongTurn design u.0 p → ⊥
   no_long_turn s t u v w p cert over run (number, is, long) =
       let waits : IsWaiting class u.0 (Process p) = (number, Evaluate p, is, refl) in
       let (f, n, (entry, x, step, owner, leads)) =
@@ -152,7 +152,7 @@ module _ (class : ℕ → ℕ) (design : Design) where
   none_past s (Some until) some past =
       never_true (has_any s.active) some (none_if_idle (has_any s.active) (has_any s.inactive) (has_any s.nonblocking) (has_any s.monitor) (has_any s.future_inactive || has_any s.future_nonblocking) past.0)
 
-  module _ (limits : Limits) (s t u : OrderedState) (v w : List (LooseTransition × Footprint)) (cert : IsCertificate moves s v t) (over : NobodyWaits class t.0) (run : Runs moves s w u) where
+  module _ (limits : Limits) (s t u : OrderedState) (v w : List (LooseTransition × Footprint)) (cert : IsCertificate moves s v t) (over : NobodyWaits class t.0) (run : IsRunOfMoves moves s w u) where
     pub none_where_ended : (end : End) → end ≢ Stopped Entries → end ≢ Stopped Memory → has_any u.0.active ≡ true → u.0.finished ≡ false → EndsIn design limits 0 u.0 end → ⊥
     none_where_ended Quiet most memory some going ends =
         never_true (has_any u.0.active) some
@@ -177,12 +177,12 @@ module _ (class : ℕ → ℕ) (design : Design) where
         never_true (has_any u.0.active) some (ap (λ z. has_any z.active) same ∙ none_where_changed class design f.state entry after x first step))
 
     abbrev Whole : Type 0
-    Whole = AlikeIn class u.0 t.0 × (printed (λ (g : Footprint). g.lines) w ≡ printed (λ (g : Footprint). g.lines) v)
+    Whole = AlikeIn class u.0 t.0 × (printed_by_steps (λ (g : Footprint). g.lines) w ≡ printed_by_steps (λ (g : Footprint). g.lines) v)
 
-    whole : (rest : List (LooseTransition × Footprint)) (r : OrderedState) → (has_any u.0.active ≡ true → u.0.finished ≡ false → ⊥) → Runs moves u rest r → AlikeIn class r.0 t.0
-        → printed (λ (g : Footprint). g.lines) w ++ printed (λ (g : Footprint). g.lines) rest ≡ printed (λ (g : Footprint). g.lines) v → Whole
+    whole : (rest : List (LooseTransition × Footprint)) (r : OrderedState) → (has_any u.0.active ≡ true → u.0.finished ≡ false → ⊥) → IsRunOfMoves moves u rest r → AlikeIn class r.0 t.0
+        → printed_by_steps (λ (g : Footprint). g.lines) w ++ printed_by_steps (λ (g : Footprint). g.lines) rest ≡ printed_by_steps (λ (g : Footprint). g.lines) v → Whole
     whole [] r stuck is near prints =
-        (subst (λ (z : OrderedState). AlikeIn class z.0 t.0) (sym is) near, sym (append-nil (printed (λ (g : Footprint). g.lines) w)) ∙ prints)
+        (subst (λ (z : OrderedState). AlikeIn class z.0 t.0) (sym is) near, sym (append-nil (printed_by_steps (λ (g : Footprint). g.lines) w)) ∙ prints)
     whole (x ∷ rest) r stuck (m, step, later) near prints =
         let (some, going) = stepping u m x.0 x.1 step in
         absurd (stuck some going)

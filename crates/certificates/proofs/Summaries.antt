@@ -4,7 +4,7 @@ use Rattle.std.specs.List.{list_any}
 use Rattle.model.specs.Turns.{contains}
 use Rattle.loose.specs.declared.transition.LooseTransition.{LooseTransition}
 use Rattle.loose.specs.declared.transition.LooseTransition.TheVariants.{Process, FirstOf, Change}
-use Rattle.footprints.specs.Footprints.{changed, process_of}
+use Rattle.footprints.specs.Footprints.{changed_registers, process_of_actor}
 use Rattle.certificates.specs.declared.summary.Summary.{Summary}
 use Rattle.certificates.specs.Masks.{registers_of, meet}
 use Rattle.certificates.specs.Marks.{is_marked}
@@ -66,13 +66,13 @@ differ_by f (Change x) b e e' one none = cc
 differ_by f (Process p) (Change x) e e' one none = cc
 differ_by f (FirstOf c) (Change x) e e' one none = cc
 
-own_marked : (f : LooseTransition → Bool) (a : LooseTransition) (n : ℕ) → f a ≡ true → contains (process_of a) n ≡ true → f (Process n) ≡ true
+own_marked : (f : LooseTransition → Bool) (a : LooseTransition) (n : ℕ) → f a ≡ true → contains (process_of_actor a) n ≡ true → f (Process n) ≡ true
 own_marked f (Process p) n one among =
     elim (or_cases (p == n) false among) [ inl is ↦ subst (λ m. f (Process m) ≡ true) (eqb-true p n is) one | inr none ↦ cc ]
 own_marked f (FirstOf c) n one among = cc
 own_marked f (Change x) n one among = cc
 
-own_unmarked : (f : LooseTransition → Bool) (a : LooseTransition) → f a ≡ false → list_any (λ p. f (Process p)) (process_of a) ≡ false
+own_unmarked : (f : LooseTransition → Bool) (a : LooseTransition) → f a ≡ false → list_any (λ p. f (Process p)) (process_of_actor a) ≡ false
 own_unmarked f (Process p) none = ap (λ b. b || false) none
 own_unmarked f (FirstOf c) none = refl
 own_unmarked f (Change x) none = refl
@@ -93,25 +93,25 @@ module _ (t : Summary) (note last : NoteView) (told : IsSummed t note) (off : Ke
         concern =
             record {
               owners = differ_by (has t.actors) note.owner last.owner told.event off.event told.owner others.0;
-              woken = meet_none process (process_of note.owner) last.woken (λ n h. own_marked (has t.actors) note.owner n told.owner h) others.1;
-              other_woken = none_meet process note.woken (process_of last.owner) told.woken (own_unmarked (has t.actors) last.owner others.0);
+              woken = meet_none process (process_of_actor note.owner) last.woken (λ n h. own_marked (has t.actors) note.owner n told.owner h) others.1;
+              other_woken = none_meet process note.woken (process_of_actor last.owner) told.woken (own_unmarked (has t.actors) last.owner others.0);
               both_woken = meet_none process note.woken last.woken told.woken others.1;
             };
         registers =
             record {
               writes = meet_none written note.writes last.writes told.writes off.registers.writes;
-              uses = meet_none changes (changed note.changes) last.uses told.changes off.registers.uses;
-              other_uses = none_meet seen note.uses (changed last.changes) told.uses off.registers.changes;
+              uses = meet_none changes (changed_registers note.changes) last.uses told.changes off.registers.uses;
+              other_uses = none_meet seen note.uses (changed_registers last.changes) told.uses off.registers.changes;
             };
         wake =
             record {
-              awaits = wake_none note.changes last.awaits (meet_none changes (changed note.changes) (registers_of last.awaits) told.changes off.registers.awaits);
-              ended = wake_none note.changes last.ended (meet_none changes (changed note.changes) (registers_of last.ended) told.changes off.registers.ended);
+              awaits = wake_none note.changes last.awaits (meet_none changes (changed_registers note.changes) (registers_of last.awaits) told.changes off.registers.awaits);
+              ended = wake_none note.changes last.ended (meet_none changes (changed_registers note.changes) (registers_of last.ended) told.changes off.registers.ended);
             };
         other_wake =
             record {
-              awaits = wake_none last.changes note.awaits (none_meet seen (registers_of note.awaits) (changed last.changes) told.awaits off.registers.changes);
-              ended = wake_none last.changes note.ended (none_meet seen (registers_of note.ended) (changed last.changes) told.ended off.registers.changes);
+              awaits = wake_none last.changes note.awaits (none_meet seen (registers_of note.awaits) (changed_registers last.changes) told.awaits off.registers.changes);
+              ended = wake_none last.changes note.ended (none_meet seen (registers_of note.ended) (changed_registers last.changes) told.ended off.registers.changes);
             };
         times = share_none (λ c. is_marked t.assigned.items c) note.assigns last.assigns told.assigns off.assigns;
         tell =
@@ -164,7 +164,7 @@ module _ (old marked : Summary) (note : NoteView) (prints strobes holds : Bool) 
       record {
         actors = λ a k. h.actors a ∙ or_left (has old.actors a) (begins note a) k;
         written = λ r k. h.written r ∙ or_left (is_marked old.written.items r) (contains note.writes r) k;
-        changed = λ r k. h.changed r ∙ or_left (is_marked old.changed.items r) (contains (changed note.changes) r) k;
+        changed = λ r k. h.changed r ∙ or_left (is_marked old.changed.items r) (contains (changed_registers note.changes) r) k;
         seen =
             λ r k. h.seen r
             ∙ or_left ((is_marked old.seen.items r || contains note.uses r) || contains (registers_of note.awaits) r) (contains (registers_of note.ended) r)
@@ -182,7 +182,7 @@ module _ (old marked : Summary) (note : NoteView) (prints strobes holds : Bool) 
         owner = h.actors note.owner ∙ or_right (has old.actors note.owner) (begins note note.owner) (has_own note.owner note event refl);
         woken = λ n k. h.actors (Process n) ∙ or_right (has old.actors (Process n)) (begins note (Process n)) (begun note n k);
         writes = λ r k. h.written r ∙ or_right (is_marked old.written.items r) (contains note.writes r) k;
-        changes = λ r k. h.changed r ∙ or_right (is_marked old.changed.items r) (contains (changed note.changes) r) k;
+        changes = λ r k. h.changed r ∙ or_right (is_marked old.changed.items r) (contains (changed_registers note.changes) r) k;
         uses =
             λ r k. h.seen r
             ∙ or_left ((is_marked old.seen.items r || contains note.uses r) || contains (registers_of note.awaits) r) (contains (registers_of note.ended) r)

@@ -10,7 +10,7 @@ use Rattle.logic4.specs.declared.digit.Edge.{Edge}
 use Rattle.logic4.specs.Edges.{edge}
 use Rattle.loose.specs.declared.transition.LooseTransition.{LooseTransition}
 use Rattle.loose.specs.declared.transition.LooseTransition.TheVariants.{Process, FirstOf, Change}
-use Rattle.footprints.specs.Footprints.{ValueChange, Footprint, changed, matches_any, Disjoint, process_of, concerned, written, assigns_for}
+use Rattle.footprints.specs.Footprints.{RegisterChange, Footprint, changed_registers, matches_any, Disjoint, process_of_actor, concerned, written_registers, assigns_for}
 use Rattle.certificates.specs.Masks.{registers_of, meet}
 use Rattle.certificates.specs.Changes.{may_wake, may_wake_any}
 use Rattle.certificates.specs.Notes.{NoteView, TellsOf, StandApart}
@@ -33,7 +33,7 @@ differ_not a b h same = never_true (differ a a) (subst (λ z. differ a z ≡ tru
 not_of : (n m : ℕ) → ((n == m) || false) ≡ true → n ≡ m
 not_of n m h = elim (or_cases (n == m) false h) [ inl is ↦ eqb-true n m is | inr none ↦ cc ]
 
-own_differ : (a b : LooseTransition) (n : ℕ) → differ a b ≡ true → contains (process_of a) n ≡ true → contains (process_of b) n ≡ true → ⊥
+own_differ : (a b : LooseTransition) (n : ℕ) → differ a b ≡ true → contains (process_of_actor a) n ≡ true → contains (process_of_actor b) n ≡ true → ⊥
 own_differ (Process p) (Process q) n h one other = never_true (differ (Process p) (Process q)) h (subst (λ z. differ (Process p) (Process z) ≡ false) (not_of p n one ∙ sym (not_of q n other)) (not_same p))
 own_differ (Process p) (FirstOf d) n h one other = cc
 own_differ (Process p) (Change e) n h one other = cc
@@ -67,17 +67,17 @@ contains_both (x ∷ xs) ys n h =
     ]
 
 module _ (a b : NoteView) (f g : Footprint) (told : TellsOf a f) (told' : TellsOf b g) where
-  own_told : (n : ℕ) → contains (concerned f) n ≡ true → (contains (process_of a.owner) n ≡ true) ⊎ (contains a.woken n ≡ true)
+  own_told : (n : ℕ) → contains (concerned f) n ≡ true → (contains (process_of_actor a.owner) n ≡ true) ⊎ (contains a.woken n ≡ true)
   own_told n h =
-      elim (contains_both (process_of f.owner) f.woken n h) [
-        | inl own ↦ inl (subst (λ z. contains (process_of z) n ≡ true) told.owner own)
+      elim (contains_both (process_of_actor f.owner) f.woken n h) [
+        | inl own ↦ inl (subst (λ z. contains (process_of_actor z) n ≡ true) told.owner own)
         | inr woken ↦ inr (sym (told.woken n) ∙ woken)
       ]
 
-changed_told : (a : NoteView) (f : Footprint) → TellsOf a f → (n : ℕ) → contains (changed f.changes) n ≡ true → contains (changed a.changes) n ≡ true
+changed_told : (a : NoteView) (f : Footprint) → TellsOf a f → (n : ℕ) → contains (changed_registers f.changes) n ≡ true → contains (changed_registers a.changes) n ≡ true
 changed_told a f told n h =
-    any_mapped (λ q. q == n) (λ (c : ValueChange). c.register) a.changes
-    ∙ any_told (λ (c : ValueChange). c.register == n) f.changes a.changes told.changes (sym (any_mapped (λ q. q == n) (λ (c : ValueChange). c.register) f.changes) ∙ h)
+    any_mapped (λ q. q == n) (λ (c : RegisterChange). c.register) a.changes
+    ∙ any_told (λ (c : RegisterChange). c.register == n) f.changes a.changes told.changes (sym (any_mapped (λ q. q == n) (λ (c : RegisterChange). c.register) f.changes) ∙ h)
 
 -- what wakes who waits is of a register of an event
 pub wakes_on : (ts : List Trigger) (r : ℕ) (e : Edge) → wakes_by ts r e ≡ true → contains (registers_of ts) r ≡ true
@@ -90,21 +90,21 @@ wake_either true woken there more h = h
 wake_either false woken there more h = more h
 
 -- what may wake nobody matches nothing
-matches_none : (ts : List Trigger) (cs : List ValueChange) → may_wake_any ts cs ≡ false → matches_any ts cs ≡ false
+matches_none : (ts : List Trigger) (cs : List RegisterChange) → may_wake_any ts cs ≡ false → matches_any ts cs ≡ false
 matches_none ts cs none =
     false_by (matches_any ts cs) (may_wake_any ts cs)
     (λ h.
-    let (c, there, is) = any_at (λ (c : ValueChange). wakes ts c.register c.before c.after) cs h in
-    any_in (λ (d : ValueChange). may_wake ts d) cs c there
+    let (c, there, is) = any_at (λ (c : RegisterChange). wakes ts c.register c.before c.after) cs h in
+    any_in (λ (d : RegisterChange). may_wake ts d) cs c there
     (wake_either (length c.before == length c.after) (wakes ts c.register c.before c.after) (contains (registers_of ts) c.register) (wakes_on ts c.register (edge c.before c.after)) is))
     none
 
-matches_told : (ts us : List Trigger) (cs ds : List ValueChange) → ((t : Trigger) → Contains ts t → Contains us t) → ((c : ValueChange) → Contains cs c → Contains ds c) → matches_any us ds ≡ false → matches_any ts cs ≡ false
+matches_told : (ts us : List Trigger) (cs ds : List RegisterChange) → ((t : Trigger) → Contains ts t → Contains us t) → ((c : RegisterChange) → Contains cs c → Contains ds c) → matches_any us ds ≡ false → matches_any ts cs ≡ false
 matches_told ts us cs ds more more' none =
     false_by (matches_any ts cs) (matches_any us ds)
     (λ h.
-    let (c, there, is) = any_at (λ (c : ValueChange). wakes ts c.register c.before c.after) cs h in
-    any_in (λ (c : ValueChange). wakes us c.register c.before c.after) ds c (more' c there)
+    let (c, there, is) = any_at (λ (c : RegisterChange). wakes ts c.register c.before c.after) cs h in
+    any_in (λ (c : RegisterChange). wakes us c.register c.before c.after) ds c (more' c there)
     (any_told (λ (t : Trigger). (t.1 == c.register) && edge_matches t.0 (edge c.before c.after)) ts us more is))
     none
 
@@ -141,17 +141,17 @@ apart_by_notes a b others leave wake wake' times tell f g told told' =
             | inl own ↦
                 elim (own_told b a g f told' told n other) [
                   | inl own' ↦ own_differ a.owner b.owner n others.owners own own'
-                  | inr woken' ↦ meet_none (process_of a.owner) b.woken n others.woken own woken'
+                  | inr woken' ↦ meet_none (process_of_actor a.owner) b.woken n others.woken own woken'
                 ]
             | inr woken ↦
                 elim (own_told b a g f told' told n other) [
-                  | inl own' ↦ meet_none (process_of b.owner) a.woken n others.other_woken own' woken
+                  | inl own' ↦ meet_none (process_of_actor b.owner) a.woken n others.other_woken own' woken
                   | inr woken' ↦ meet_none a.woken b.woken n others.both_woken woken woken'
                 ]
           ]);
-      writes = disjoint_by (written f) (written g) a.writes b.writes told.writes told'.writes leave.writes;
-      uses = disjoint_back (changed g.changes) f.uses (disjoint_by (changed g.changes) f.uses (changed b.changes) a.uses (changed_told b g told') told.uses leave.other_uses);
-      other_uses = disjoint_back (changed f.changes) g.uses (disjoint_by (changed f.changes) g.uses (changed a.changes) b.uses (changed_told a f told) told'.uses leave.uses);
+      writes = disjoint_by (written_registers f) (written_registers g) a.writes b.writes told.writes told'.writes leave.writes;
+      uses = disjoint_back (changed_registers g.changes) f.uses (disjoint_by (changed_registers g.changes) f.uses (changed_registers b.changes) a.uses (changed_told b g told') told.uses leave.other_uses);
+      other_uses = disjoint_back (changed_registers f.changes) g.uses (disjoint_by (changed_registers f.changes) g.uses (changed_registers a.changes) b.uses (changed_told a f told) told'.uses leave.uses);
       awaits = matches_told f.awaits a.awaits g.changes b.changes told.awaits told'.changes (matches_none a.awaits b.changes wake'.awaits);
       other_awaits = matches_told g.awaits b.awaits f.changes a.changes told'.awaits told.changes (matches_none b.awaits a.changes wake.awaits);
       ended = matches_told f.ended a.ended g.changes b.changes told.ended told'.changes (matches_none a.ended b.changes wake'.ended);

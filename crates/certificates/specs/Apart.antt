@@ -3,7 +3,7 @@ use Rattle.std.specs.Prelude.{◌≡◌, ℕ, Bool, true, false, ◌&&◌, ◌||
 use Rattle.std.specs.List.{list_any}
 use Rattle.loose.specs.declared.transition.LooseTransition.{LooseTransition}
 use Rattle.loose.specs.declared.transition.LooseTransition.TheVariants.{Process, FirstOf}
-use Rattle.footprints.specs.Footprints.{changed, process_of}
+use Rattle.footprints.specs.Footprints.{changed_registers, process_of_actor}
 use Rattle.certificates.specs.Masks.{meet}
 use Rattle.certificates.specs.Changes.{may_wake_any}
 use Rattle.certificates.specs.Notes.{NoteView}
@@ -25,8 +25,8 @@ abbrev pub ConcernOthers : NoteView → NoteView → Type 0
 ConcernOthers a b =
     record {
       owners : differ a.owner b.owner ≡ true;
-      woken : meet (process_of a.owner) b.woken ≡ false;
-      other_woken : meet (process_of b.owner) a.woken ≡ false;
+      woken : meet (process_of_actor a.owner) b.woken ≡ false;
+      other_woken : meet (process_of_actor b.owner) a.woken ≡ false;
       both_woken : meet a.woken b.woken ≡ false;
     }
 
@@ -35,8 +35,8 @@ abbrev pub LeaveRegisters : NoteView → NoteView → Type 0
 LeaveRegisters a b =
     record {
       writes : meet a.writes b.writes ≡ false;
-      uses : meet (changed a.changes) b.uses ≡ false;
-      other_uses : meet (changed b.changes) a.uses ≡ false;
+      uses : meet (changed_registers a.changes) b.uses ≡ false;
+      other_uses : meet (changed_registers b.changes) a.uses ≡ false;
     }
 
 -- no change of the first may wake who waits for what the other goes on to wait for, or those waited for whom it concerns

@@ -1,5 +1,5 @@
--- Lists of numbers and of events, and their masks.
-use Rattle.std.specs.Prelude.{◌≡◌, ℕ, ◌%◌, Bool, true, List, map}
+-- Lists of items that have numbers, and the masks of these numbers.
+use Rattle.std.specs.Prelude.{◌≡◌, ℕ, ◌%◌, ◌==◌, Bool, true, List, map}
 use Rattle.std.specs.List.{list_any}
 use Rattle.std.specs.Int.{bit_at}
 use Rattle.model.specs.Design.{Trigger}
@@ -7,16 +7,16 @@ use Rattle.model.specs.Turns.{contains}
 use Rattle.certificates.specs.declared.mask.Mask.{Mask}
 
 -- a mask has the bit of each of these numbers, which is that of its remainder by 64
-abbrev pub IsMasked : List ℕ → Mask → Type 0
-IsMasked numbers mask = (n : ℕ) → contains numbers n ≡ true → bit_at mask.bits (n % 64) ≡ 1
+abbrev pub IsMaskOf : (ℕ → Bool) → Mask → Type 0
+IsMaskOf has mask = (n : ℕ) → has n ≡ true → bit_at mask.bits (n % 64) ≡ 1
+
+-- whether one of these items has this number
+abbrev pub has_number : {T : Type 0} → (T → ℕ) → List T → ℕ → Bool
+has_number number_of items n = list_any (λ x. number_of x == n) items
 
 -- the registers of events
 abbrev pub registers_of : List Trigger → List ℕ
 registers_of triggers = map (λ t. t.1) triggers
-
--- a mask has the bit of the register of each of these events
-abbrev pub AreTriggersMasked : List Trigger → Mask → Type 0
-AreTriggersMasked triggers mask = IsMasked (registers_of triggers) mask
 
 -- whether a number is among both of these
 abbrev pub meet : List ℕ → List ℕ → Bool

@@ -1,5 +1,5 @@
 -- Notes as they stand, read as plain lists.
-use Rattle.certificates.specs.declared.note.Note.TheInside.{Inside}
+use Rattle.certificates.specs.declared.note.StepNote.TheInside.{Inside}
 use Rattle.certificates.specs.Notes.{NoteView}
 
 -- the lists of a note

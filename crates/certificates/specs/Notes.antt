@@ -4,7 +4,7 @@ use Rattle.std.specs.List.{Contains}
 use Rattle.model.specs.Design.{Trigger}
 use Rattle.model.specs.Turns.{contains}
 use Rattle.loose.specs.declared.transition.LooseTransition.{LooseTransition}
-use Rattle.footprints.specs.Footprints.{ValueChange, Footprint, written, AreApart}
+use Rattle.footprints.specs.Footprints.{RegisterChange, Footprint, written_registers, AreApart}
 
 -- A note of a step: its owner; registers, changes, triggers and processes as those of a footprint; and whether it prints, meets a $strobe,
 -- and meets $finish.
@@ -12,7 +12,7 @@ pub record NoteView : Type 0 where
   pub owner : LooseTransition
   pub uses : List ℕ
   pub writes : List ℕ
-  pub changes : List ValueChange
+  pub changes : List RegisterChange
   pub awaits : List Trigger
   pub woken : List ℕ
   pub ended : List Trigger
@@ -26,8 +26,8 @@ pub record NoteView : Type 0 where
 pub record TellsOf (note : NoteView) (f : Footprint) : Type 0 where
   pub owner : f.owner ≡ note.owner
   pub uses : (r : ℕ) → contains f.uses r ≡ true → contains note.uses r ≡ true
-  pub writes : (r : ℕ) → contains (written f) r ≡ true → contains note.writes r ≡ true
-  pub changes : (c : ValueChange) → Contains f.changes c → Contains note.changes c
+  pub writes : (r : ℕ) → contains (written_registers f) r ≡ true → contains note.writes r ≡ true
+  pub changes : (c : RegisterChange) → Contains f.changes c → Contains note.changes c
   pub awaits : (t : Trigger) → Contains f.awaits t → Contains note.awaits t
   pub woken : (p : ℕ) → contains f.woken p ≡ contains note.woken p
   pub ended : (t : Trigger) → Contains f.ended t → Contains note.ended t

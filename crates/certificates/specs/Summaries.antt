@@ -4,7 +4,7 @@ use Rattle.std.specs.List.{list_any}
 use Rattle.model.specs.Turns.{contains}
 use Rattle.loose.specs.declared.transition.LooseTransition.{LooseTransition}
 use Rattle.loose.specs.declared.transition.LooseTransition.TheVariants.{Process, Change}
-use Rattle.footprints.specs.Footprints.{changed}
+use Rattle.footprints.specs.Footprints.{changed_registers}
 use Rattle.certificates.specs.declared.summary.Summary.{Summary}
 use Rattle.certificates.specs.Masks.{registers_of}
 use Rattle.certificates.specs.Marks.{is_marked}
@@ -21,7 +21,7 @@ is_event _ = true
 pub record HasMarked (old new : Summary) (note : NoteView) : Type 0 where
   pub actors : (a : LooseTransition) → has new.actors a ≡ (has old.actors a || begins note a)
   pub written : (r : ℕ) → is_marked new.written.items r ≡ (is_marked old.written.items r || contains note.writes r)
-  pub changed : (r : ℕ) → is_marked new.changed.items r ≡ (is_marked old.changed.items r || contains (changed note.changes) r)
+  pub changed : (r : ℕ) → is_marked new.changed.items r ≡ (is_marked old.changed.items r || contains (changed_registers note.changes) r)
   pub seen : (r : ℕ) → is_marked new.seen.items r ≡ (((is_marked old.seen.items r || contains note.uses r) || contains (registers_of note.awaits) r) || contains (registers_of note.ended) r)
   pub assigned : (c : ℕ) → is_marked new.assigned.items c ≡ (is_marked old.assigned.items c || list_any (λ a. a.0 == c) note.assigns)
   pub prints : new.prints ≡ old.prints
@@ -43,7 +43,7 @@ pub record IsSummed (summary : Summary) (note : NoteView) : Type 0 where
   pub owner : has summary.actors note.owner ≡ true
   pub woken : (p : ℕ) → contains note.woken p ≡ true → has summary.actors (Process p) ≡ true
   pub writes : (r : ℕ) → contains note.writes r ≡ true → is_marked summary.written.items r ≡ true
-  pub changes : (r : ℕ) → contains (changed note.changes) r ≡ true → is_marked summary.changed.items r ≡ true
+  pub changes : (r : ℕ) → contains (changed_registers note.changes) r ≡ true → is_marked summary.changed.items r ≡ true
   pub uses : (r : ℕ) → contains note.uses r ≡ true → is_marked summary.seen.items r ≡ true
   pub awaits : (r : ℕ) → contains (registers_of note.awaits) r ≡ true → is_marked summary.seen.items r ≡ true
   pub ended : (r : ℕ) → contains (registers_of note.ended) r ≡ true → is_marked summary.seen.items r ≡ true
@@ -60,7 +60,7 @@ AreSummed summary (note ∷ notes) = IsSummed summary note × AreSummed summary 
 -- A step writes, changes, uses and awaits no register that is marked against it.
 pub record LeavesMarked (summary : Summary) (note : NoteView) : Type 0 where
   pub writes : list_any (λ r. is_marked summary.written.items r) note.writes ≡ false
-  pub changes : list_any (λ r. is_marked summary.seen.items r) (changed note.changes) ≡ false
+  pub changes : list_any (λ r. is_marked summary.seen.items r) (changed_registers note.changes) ≡ false
   pub uses : list_any (λ r. is_marked summary.changed.items r) note.uses ≡ false
   pub awaits : list_any (λ r. is_marked summary.changed.items r) (registers_of note.awaits) ≡ false
   pub ended : list_any (λ r. is_marked summary.changed.items r) (registers_of note.ended) ≡ false

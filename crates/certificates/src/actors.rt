@@ -5,7 +5,7 @@ ghost use Rattle.certificates.specs.Coming.{is_same, is_of_any, begins};
 ghost use Rattle.certificates.specs.Actors.{has};
 
 use crate::marked::{is_marked_at, mark};
-use crate::note::Note;
+use crate::note::StepNote;
 use loose::transition::LooseTransition;
 use std::alloc::{AllocError, Global};
 
@@ -56,14 +56,14 @@ impl Actors {
     }
 
     /// Whether a noted step is of one of them, or wakes one.
-    pub fn begin_in(&self, note: &Note) -> bool
+    pub fn begin_in(&self, note: &StepNote) -> bool
         ensures { result ≡ is_of_any (has self.now) note.now }
     {
         self.contains(note.owner) || note.woken.is_any_marked(self.processes.as_slice())
     }
 
     /// Takes in those whose next step comes of a noted step: its own actor, and the processes that it wakes.
-    pub fn insert_begun(&mut self, note: &Note) -> Result<(), AllocError>
+    pub fn insert_begun(&mut self, note: &StepNote) -> Result<(), AllocError>
         ensures { OnOk result ((a : Actor) → has self.new a ≡ (has self.old a || begins note.now a)) }
     {
         self.insert(note.owner)?;

@@ -1,13 +1,13 @@
 //! Whether steps are apart by their notes.
 ghost use Rattle.std.specs.Prelude.{◌≡◌, true, ◌&&◌, ◌==◌};
 ghost use Rattle.std.specs.List.{list_any};
-ghost use Rattle.footprints.specs.Footprints.{process_of};
+ghost use Rattle.footprints.specs.Footprints.{process_of_actor};
 ghost use Rattle.certificates.specs.Masks.{meet};
 ghost use Rattle.certificates.specs.Notes.{StandApart};
 ghost use Rattle.certificates.specs.Apart.{differ, share, ConcernOthers, LeaveRegisters, WakeNoneOf, TellApart, SayApart};
 
-use crate::note::Note;
-use crate::numbers::Numbers;
+use crate::note::StepNote;
+use crate::numbers::MaskedNumbers;
 use loose::transition::LooseTransition;
 
 // Whether these are two different actors.
@@ -24,8 +24,8 @@ fn are_different(one: LooseTransition, other: LooseTransition) -> bool
 }
 
 // Whether the process of an actor, if it is one, is among these.
-fn is_among(owner: LooseTransition, processes: &Numbers) -> bool
-    ensures { result ≡ meet (process_of owner) processes.now }
+fn is_among(owner: LooseTransition, processes: &MaskedNumbers) -> bool
+    ensures { result ≡ meet (process_of_actor owner) processes.now }
 {
     match owner {
         LooseTransition::Process(process) => processes.contains(process),
@@ -34,7 +34,7 @@ fn is_among(owner: LooseTransition, processes: &Numbers) -> bool
 }
 
 // Whether no process is concerned by both: as the one whose turn it is, or as one that is woken.
-fn concern_others(one: &Note, other: &Note) -> bool
+fn concern_others(one: &StepNote, other: &StepNote) -> bool
     ensures so { result ≡ true → ConcernOthers one.now other.now }
     ensures only_so { ConcernOthers one.now other.now → result ≡ true }
 {
@@ -45,7 +45,7 @@ fn concern_others(one: &Note, other: &Note) -> bool
 }
 
 // Whether no register is written by both, nor used by one and changed by the other.
-fn leave_registers(one: &Note, other: &Note) -> bool
+fn leave_registers(one: &StepNote, other: &StepNote) -> bool
     ensures so { result ≡ true → LeaveRegisters one.now other.now }
     ensures only_so { LeaveRegisters one.now other.now → result ≡ true }
 {
@@ -55,7 +55,7 @@ fn leave_registers(one: &Note, other: &Note) -> bool
 }
 
 // Whether no change of a step wakes who goes on to wait after another, or whom that concerns.
-fn wakes_none_of(one: &Note, other: &Note) -> bool
+fn wakes_none_of(one: &StepNote, other: &StepNote) -> bool
     ensures so { result ≡ true → WakeNoneOf one.now other.now }
     ensures only_so { WakeNoneOf one.now other.now → result ≡ true }
 {
@@ -79,7 +79,7 @@ fn share_a_time(ones: &[(u32, u64)], others: &[(u32, u64)]) -> bool
 }
 
 // Whether not both print, not both meet a `$strobe`, and where one finishes, the other neither prints nor finishes.
-fn tell_apart(one: &Note, other: &Note) -> bool
+fn tell_apart(one: &StepNote, other: &StepNote) -> bool
     ensures so { result ≡ true → TellApart one.now other.now }
     ensures only_so { TellApart one.now other.now → result ≡ true }
 {
@@ -90,7 +90,7 @@ fn tell_apart(one: &Note, other: &Note) -> bool
 }
 
 /// Whether two steps are apart by what their notes say. Where they are, whatever steps the notes tell of may be taken in either order.
-pub fn apart(one: &Note, other: &Note) -> bool
+pub fn apart(one: &StepNote, other: &StepNote) -> bool
     ensures apart { result ≡ true → StandApart one.now other.now }
     ensures so { result ≡ true → SayApart one.now other.now }
     ensures only_so { SayApart one.now other.now → result ≡ true }

@@ -10,7 +10,7 @@ ghost use Rattle.certificates.specs.Summaries.{AreSummed};
 
 use crate::actors::Actors;
 use crate::apart::apart;
-use crate::note::Note;
+use crate::note::StepNote;
 use crate::summary::Summary;
 use loose::transition::LooseTransition;
 use std::alloc::{AllocError, Global};
@@ -19,7 +19,11 @@ use std::mem;
 
 // One step back from a last one, through those before it: whether it is apart from the last, where the last doesn't come of it. The
 // actors by whose steps the last one may come are kept.
-fn leads_or_is_apart(leading: &mut Actors, earlier: &Note, last: &Note) -> Result<bool, AllocError>
+fn leads_or_is_apart(
+    leading: &mut Actors,
+    earlier: &StepNote,
+    last: &StepNote,
+) -> Result<bool, AllocError>
     ensures own { IfOk result (λ answer. answer ≡ true → is_of_any (has leading.old) earlier.now ≡ false → SayApart earlier.now last.now) }
     ensures only_own { IfOk result (λ answer. (is_of_any (has leading.old) earlier.now ≡ false → SayApart earlier.now last.now) → answer ≡ true) }
     ensures actors { OnOk result ((a : Actor) → has leading.new a ≡ (has leading.old a || (is_of_any (has leading.old) earlier.now && is_same earlier.now.owner a))) }
@@ -33,7 +37,11 @@ fn leads_or_is_apart(leading: &mut Actors, earlier: &Note, last: &Note) -> Resul
 
 // Whether a last step comes of each of these, or is apart from it. The walk goes back from it, so that a set of actors tells by whose steps
 // it may come: no step has to keep of which others it comes.
-fn comes_or_is_apart(leading: &mut Actors, notes: &[Note], last: &Note) -> Result<bool, AllocError>
+fn comes_or_is_apart(
+    leading: &mut Actors,
+    notes: &[StepNote],
+    last: &StepNote,
+) -> Result<bool, AllocError>
     ensures so { IfOk result (λ answer. answer ≡ true → ComesOrIsApart notes.now last.now) }
     ensures only_so { IfOk result (λ answer. ComesOrIsApart notes.now last.now → answer ≡ true) }
 {
@@ -52,8 +60,8 @@ fn still_certifies(
     certified: bool,
     summary: &Summary,
     leading: &mut Actors,
-    notes: &[Note],
-    last: &Note,
+    notes: &[StepNote],
+    last: &StepNote,
 ) -> Result<bool, AllocError>
     requires summed { summary.now.holds ≡ true → AreSummed summary.now notes.now }
     ensures before { IfOk result (λ answer. answer ≡ true → certified ≡ true) }
@@ -72,10 +80,10 @@ fn still_certifies(
 
 // Makes room for one note more, behind the first ones.
 fn make_room(
-    notes: &mut Vec<Note>,
+    alloc: Global,
+    notes: &mut Vec<StepNote>,
     count: usize,
     owner: LooseTransition,
-    alloc: Global,
 ) -> Result<(), AllocError>
     requires { count ≤ vec_len notes.old }
     ensures room { OnOk result (count < vec_len notes.new) }
@@ -83,13 +91,13 @@ fn make_room(
     ensures kept { count ≤ vec_len notes.new }
 {
     if count == notes.len() {
-        notes.push(Note::new(alloc, owner))?;
+        notes.push(StepNote::new(alloc, owner))?;
     }
     Ok(())
 }
 
 // Puts a note at a place, and takes the one that stood there.
-fn exchange(notes: &mut Vec<Note>, place: usize, note: &mut Note)
+fn exchange(notes: &mut Vec<StepNote>, place: usize, note: &mut StepNote)
     requires { place < vec_len notes.old }
     ensures items { notes.new.items ≡ slice_set notes.old.items place note.old }
     ensures as_many { vec_len notes.new ≡ vec_len notes.old }
@@ -101,7 +109,7 @@ fn exchange(notes: &mut Vec<Note>, place: usize, note: &mut Note)
 /// their room.
 #[derive(Drop)]
 pub struct Certificate {
-    notes: Vec<Note>,
+    notes: Vec<StepNote>,
     count: usize,
     certifies: bool,
     summary: Summary,
@@ -148,7 +156,7 @@ impl Certificate {
     }
 
     /// The notes, in the order of the steps.
-    pub fn notes(&self) -> &[Note]
+    pub fn notes(&self) -> &[StepNote]
         ensures { result.now ≡ self.entry.now }
     {
         &self.notes[..self.count]
@@ -165,7 +173,7 @@ impl Certificate {
 
     /// Adds the note of the next step, and answers whether the notes still certify. In its place another note is left, which may have
     /// anything in it, so that it is begun anew. After an `Err` the notes are as they were.
-    pub fn add(&mut self, note: &mut Note) -> Result<bool, AllocError>
+    pub fn add(&mut self, note: &mut StepNote) -> Result<bool, AllocError>
         ensures added { OnOk result (self.new ≡ self.old ++ note.old ∷ []) }
         ensures certified { IfOk result (λ certifies. certifies ≡ true → Certify self.new) }
         ensures so { IfOk result (λ certifies. certifies ≡ true → AreOrdered self.new) }
@@ -173,7 +181,7 @@ impl Certificate {
         ensures unchanged { OnErr result (self.new ≡ self.old) }
         ensures note_unchanged { OnErr result (note.new ≡ note.old) }
     {
-        make_room(&mut self.notes, self.count, note.owner, self.alloc)?;
+        make_room(self.alloc, &mut self.notes, self.count, note.owner)?;
         let certifies = still_certifies(
             self.certifies,
             &self.summary,

@@ -1,9 +1,10 @@
 //! Numbers that are marked: each has its mark at its place.
 ghost use Rattle.std.specs.Prelude.{◌≡◌, ◌<◌, ℕ, ◌||◌, ◌==◌, false, OnOk};
 ghost use Rattle.std.specs.Vec.{vec_len};
-ghost use Rattle.model.specs.Turns.{contains};
 ghost use Rattle.certificates.specs.Marks.{is_marked};
+ghost use Rattle.certificates.specs.Masks.{has_number};
 
+use crate::masked::Numbered;
 use std::alloc::AllocError;
 
 /// Whether a number is marked.
@@ -37,12 +38,12 @@ pub(crate) fn mark(marks: &mut Vec<bool>, number: u32) -> Result<(), AllocError>
     Ok(())
 }
 
-/// Marks each of these numbers.
-pub(crate) fn mark_all(marks: &mut Vec<bool>, numbers: &[u32]) -> Result<(), AllocError>
-    ensures { OnOk result ((n : ℕ) → is_marked marks.new.items n ≡ (is_marked marks.old.items n || contains numbers.now n)) }
+/// Marks the number of each of these.
+pub(crate) fn mark_all<T: Numbered>(marks: &mut Vec<bool>, items: &[T]) -> Result<(), AllocError>
+    ensures { OnOk result ((n : ℕ) → is_marked marks.new.items n ≡ (is_marked marks.old.items n || has_number T.number_of items.now n)) }
 {
-    for number in numbers {
-        mark(marks, *number)?;
+    for item in items {
+        mark(marks, item.number())?;
     }
     Ok(())
 }

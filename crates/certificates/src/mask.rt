@@ -1,7 +1,6 @@
-//! Masks of lists of numbers.
-ghost use Rattle.std.specs.Prelude.{◌≡◌, ℕ, ◌%◌, ◌^◌, false, List, [], ◌∷◌, ◌++◌};
-ghost use Rattle.model.specs.Turns.{contains};
-ghost use Rattle.certificates.specs.Masks.{IsMasked, meet};
+//! Masks of numbers.
+ghost use Rattle.std.specs.Prelude.{◌≡◌, ℕ, ◌%◌, ◌^◌, ◌||◌, ◌==◌, Bool, true, false};
+ghost use Rattle.certificates.specs.Masks.{IsMaskOf};
 
 // How many bits a mask has.
 const MASK_BITS: u32 = 64;
@@ -13,8 +12,8 @@ fn bit_of(number: u32) -> u64
     1_u64 << (number % MASK_BITS)
 }
 
-/// A mask of a list of numbers. It has the bit of each, and so it tells of most lists without a look at them that a number is none of
-/// them, or that no number is in both.
+/// A mask of numbers. It has the bit of each, and so it tells of most without a look at them that a number is none of them, or that no
+/// number is among these and others.
 #[derive(Clone, Copy)]
 pub(crate) struct Mask {
     bits: u64,
@@ -23,28 +22,28 @@ pub(crate) struct Mask {
 impl Mask {
     /// The mask of no numbers.
     pub(crate) fn empty() -> Mask
-        ensures { IsMasked [] result }
+        ensures { IsMaskOf (λ _. false) result }
     {
         Mask { bits: 0 }
     }
 
-    /// Adds the bit of a number that is appended.
+    /// Adds the bit of one number more.
     pub(crate) fn insert(&mut self, number: u32)
-        ensures { (numbers : List ℕ) → IsMasked numbers self.old → IsMasked (numbers ++ number ∷ []) self.new }
+        ensures { (has : ℕ → Bool) → IsMaskOf has self.old → IsMaskOf (λ n. has n || number == n) self.new }
     {
         self.bits |= bit_of(number);
     }
 
-    /// Whether a number may be among the numbers of the mask. Where it may not, it is none of them.
+    /// Whether a number may be among those of the mask. Where it may not, it is none of them.
     pub(crate) fn may_have(self, number: u32) -> bool
-        ensures { (numbers : List ℕ) → IsMasked numbers self → result ≡ false → contains numbers number ≡ false }
+        ensures { (has : ℕ → Bool) → IsMaskOf has self → result ≡ false → has number ≡ false }
     {
         self.bits & bit_of(number) != 0
     }
 
     /// Whether a number may be among those of both masks. Where it may not, none is among both.
     pub(crate) fn may_meet(self, other: Mask) -> bool
-        ensures { (numbers others : List ℕ) → IsMasked numbers self → IsMasked others other → result ≡ false → meet numbers others ≡ false }
+        ensures { (has among : ℕ → Bool) → IsMaskOf has self → IsMaskOf among other → result ≡ false → (n : ℕ) → has n ≡ true → among n ≡ false }
     {
         self.bits & other.bits != 0
     }

@@ -2,7 +2,7 @@
 ghost use Rattle.std.specs.Prelude.{◌≡◌, false, []};
 
 use crate::changes::Changes;
-use crate::numbers::Numbers;
+use crate::numbers::MaskedNumbers;
 use crate::triggers::Triggers;
 use loose::transition::LooseTransition;
 use std::alloc::Global;
@@ -13,13 +13,13 @@ use std::marker::Model;
 /// process and these waited for; the class and the time of each update that its nonblocking assignments make (9.2.2); whether it
 /// prints (17.1), meets `$strobe` (17.1.2), and meets `$finish` (17.4.1). The lists keep their room for the next step.
 #[derive(Drop)]
-pub struct Note {
+pub struct StepNote {
     pub owner: LooseTransition,
-    pub uses: Numbers,
-    pub writes: Numbers,
+    pub uses: MaskedNumbers,
+    pub writes: MaskedNumbers,
     pub changes: Changes,
     pub awaits: Triggers,
-    pub woken: Numbers,
+    pub woken: MaskedNumbers,
     pub ended: Triggers,
     pub assigns: Vec<(u32, u64)>,
     pub prints: bool,
@@ -27,7 +27,7 @@ pub struct Note {
     pub finishes: bool,
 }
 
-impl Model for Note {
+impl Model for StepNote {
     ghost use Rattle.certificates.specs.Notes.{NoteView};
 
     ghost Value = { NoteView };
@@ -37,18 +37,18 @@ impl Model for Note {
     ghost view = { view_of };
 }
 
-impl Note {
+impl StepNote {
     /// A note of nothing, with its owner.
-    pub fn new(alloc: Global, owner: LooseTransition) -> Note
+    pub fn new(alloc: Global, owner: LooseTransition) -> StepNote
         ensures { result ≡ record { owner = owner; uses = []; writes = []; changes = []; awaits = []; woken = []; ended = []; assigns = []; prints = false; strobes = false; finishes = false } }
     {
-        Note {
+        StepNote {
             owner,
-            uses: Numbers::new(alloc),
-            writes: Numbers::new(alloc),
+            uses: MaskedNumbers::new(alloc),
+            writes: MaskedNumbers::new(alloc),
             changes: Changes::new(alloc),
             awaits: Triggers::new(alloc),
-            woken: Numbers::new(alloc),
+            woken: MaskedNumbers::new(alloc),
             ended: Triggers::new(alloc),
             assigns: Vec::new(alloc),
             prints: false,

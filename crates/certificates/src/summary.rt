@@ -6,7 +6,7 @@ ghost use Rattle.certificates.specs.Summaries.{HasMarked, HasMore, IsSummed, Kee
 
 use crate::actors::Actors;
 use crate::marked::{is_marked_at, mark};
-use crate::note::Note;
+use crate::note::StepNote;
 use loose::transition::LooseTransition;
 use std::alloc::{AllocError, Global};
 
@@ -37,7 +37,7 @@ fn takes_events(actor: LooseTransition) -> bool
 }
 
 // Whether a noted step takes an event and doesn't end the run: of others a summary doesn't tell.
-fn may_be_told(note: &Note) -> bool
+fn may_be_told(note: &StepNote) -> bool
     ensures event { result ≡ true → is_event note.now.owner ≡ true }
     ensures goes_on { result ≡ true → note.now.finishes ≡ false }
 {
@@ -82,16 +82,16 @@ impl Summary {
     pub fn clear(&mut self) {
         self.holds = true;
         self.actors.clear();
+        self.prints = false;
+        self.strobes = false;
         self.written.clear();
         self.changed.clear();
         self.seen.clear();
         self.assigned.clear();
-        self.prints = false;
-        self.strobes = false;
     }
 
     // Takes in the actors of a note, and its registers and classes.
-    fn mark_all(&mut self, note: &Note) -> Result<(), AllocError>
+    fn mark_all(&mut self, note: &StepNote) -> Result<(), AllocError>
         ensures marked { OnOk result (HasMarked self.old self.new note.now) }
         ensures holds { self.new.holds ≡ self.old.holds }
     {
@@ -99,13 +99,13 @@ impl Summary {
         note.writes.mark_all(&mut self.written)?;
         note.changes.mark_all(&mut self.changed)?;
         note.uses.mark_all(&mut self.seen)?;
-        note.awaits.mark_all(&mut self.seen)?;
-        note.ended.mark_all(&mut self.seen)?;
+        note.awaits.mark_registers(&mut self.seen)?;
+        note.ended.mark_registers(&mut self.seen)?;
         mark_assigned(&mut self.assigned, note.assigns.as_slice())
     }
 
     /// Takes a note in. It doesn't hold any more after that of a step that ends the run or takes no event, and after an `Err`.
-    pub fn add(&mut self, note: &Note) -> Result<(), AllocError>
+    pub fn add(&mut self, note: &StepNote) -> Result<(), AllocError>
         ensures more { OnOk result (HasMore self.old self.new) }
         ensures summed { OnOk result (self.new.holds ≡ true → IsSummed self.new note.now) }
         ensures before { OnOk result (self.new.holds ≡ true → self.old.holds ≡ true) }
@@ -122,19 +122,19 @@ impl Summary {
 
     // Whether a step leaves alone what is marked: it writes no register that is written, changes none that is used or for which somebody
     // waits, and uses none and waits for none that is changed.
-    fn leaves_registers(&self, note: &Note) -> bool
+    fn leaves_registers(&self, note: &StepNote) -> bool
         ensures { result ≡ true → LeavesMarked self.now note.now }
     {
         !note.writes.is_any_marked(self.written.as_slice())
             && !note.changes.is_any_marked(self.seen.as_slice())
             && !note.uses.is_any_marked(self.changed.as_slice())
-            && !note.awaits.is_any_marked(self.changed.as_slice())
-            && !note.ended.is_any_marked(self.changed.as_slice())
+            && !note.awaits.is_any_register_marked(self.changed.as_slice())
+            && !note.ended.is_any_register_marked(self.changed.as_slice())
     }
 
     /// Whether a step, which doesn't end the run, is apart from all of which is told here. The answer may be no where it is: where two
     /// updates are of one class and for different times, and where a register is awaited that changes otherwise.
-    pub fn keeps_off(&self, note: &Note) -> bool
+    pub fn keeps_off(&self, note: &StepNote) -> bool
         ensures { result ≡ true → KeepsOff self.now note.now }
     {
         self.holds

@@ -19,7 +19,7 @@ use Rattle.loose.specs.declared.transition.LooseTransition.TheVariants.{Process,
 use Rattle.loose.specs.Loose.{AlikeIn, loose_step, loose_transition_of, loose_transition_of_action}
 use Rattle.loose.proofs.ClassStates.{states_in-same, states_in-trans}
 use Rattle.loose.proofs.LooseSteps.{loose_step_keeps_order}
-use Rattle.traces.specs.Traces.{Moves, AreMoves, Runs, printed}
+use Rattle.traces.specs.Traces.{Moves, AreMoves, IsRunOfMoves, printed_by_steps}
 use Rattle.traces.specs.Certificates.{IsCertificate}
 use Rattle.footprints.specs.Footprints.{Footprint, turn_footprint, update_footprint, action_footprint, footprint}
 use Rattle.footprints.specs.Moves.{OrderedState, IsMove, loose_moves}
@@ -37,32 +37,32 @@ use Rattle.certifiedruns.specs.CertifiedCover.{actors_of, CertifiedWayCovers}
 
 -- transitions up to the first change of the regions
 
-abbrev AreActors : List LooseTransition → Type 0
+abbrev pub AreActors : List LooseTransition → Type 0
 AreActors [] = Unit {0}
 AreActors (Process p ∷ more) = AreActors more
 AreActors (FirstOf c ∷ more) = AreActors more
 AreActors (Change entry ∷ more) = ⊥
 
-abbrev ChangesFirst : List LooseTransition → Type 0
+abbrev pub ChangesFirst : List LooseTransition → Type 0
 ChangesFirst [] = Unit {0}
 ChangesFirst (Process p ∷ more) = ⊥
 ChangesFirst (FirstOf c ∷ more) = ⊥
 ChangesFirst (Change entry ∷ more) = Unit {0}
 
-abbrev Divided : List LooseTransition → Type 0
+abbrev pub Divided : List LooseTransition → Type 0
 Divided transitions = (part : List LooseTransition) × (rest : List LooseTransition) × (part ++ rest ≡ transitions) × AreActors part × ChangesFirst rest
 
-divided : (transitions : List LooseTransition) → Divided transitions
+pub divided : (transitions : List LooseTransition) → Divided transitions
 divided [] = ([], [], refl, tt, tt)
 divided (Process p ∷ more) = let (part, rest, same, actors, first) = divided more in (Process p ∷ part, rest, ap (λ ts. Process p ∷ ts) same, actors, first)
 divided (FirstOf c ∷ more) = let (part, rest, same, actors, first) = divided more in (FirstOf c ∷ part, rest, ap (λ ts. FirstOf c ∷ ts) same, actors, first)
 divided (Change entry ∷ more) = ([], Change entry ∷ more, refl, tt, tt)
 
 -- what transitions lead to, in two parts
-abbrev LeadThrough : (ℕ → ℕ) → Design → Effect → List LooseTransition → List LooseTransition → Effect → Type 0
+abbrev pub LeadThrough : (ℕ → ℕ) → Design → Effect → List LooseTransition → List LooseTransition → Effect → Type 0
 LeadThrough class design e part rest g = (f : Effect) × (moves_from class design e part ≡ Some f) × (moves_from class design f rest ≡ Some g)
 
-lead_through : (class : ℕ → ℕ) (design : Design) (part rest : List LooseTransition) (e g : Effect) → moves_from class design e (part ++ rest) ≡ Some g → LeadThrough class design e part rest g
+pub lead_through : (class : ℕ → ℕ) (design : Design) (part rest : List LooseTransition) (e g : Effect) → moves_from class design e (part ++ rest) ≡ Some g → LeadThrough class design e part rest g
 lead_through class design [] rest e g run = (e, refl, run)
 lead_through class design (a ∷ part) rest e g run =
     option_and_then_some (λ x. moves_from class design (joined e x) (part ++ rest)) (move class design e.state a) g run
@@ -103,7 +103,7 @@ step_print class design s ActivateNba x a actor is step = absurd (no_actor a Act
 step_print class design s ActivateMonitor x a actor is step = absurd (no_actor a ActivateMonitor actor is)
 step_print class design s (Advance time) x a actor is step = absurd (no_actor a (Advance time) actor is)
 
-abbrev lines_of : Footprint → List ℕ
+abbrev pub lines_of : Footprint → List ℕ
 lines_of f = f.lines
 
 owner_is : (a b : LooseTransition) → Some a ≡ Some b → a ≡ b
@@ -121,7 +121,7 @@ actor_of : (class : ℕ → ℕ) (action : Action) (a : LooseTransition) → loo
 actor_of class (Evaluate p) a own = subst IsActor (owner_is (Process p) a own) tt
 actor_of class (Action.Update r v) a own = subst IsActor (owner_is (FirstOf (class r)) a own) tt
 
-none_changed : (class : ℕ → ℕ) (design : Design) (s : State) (entry : Entry) (x : Effect) → move class design s (Change entry) ≡ Some x → has_any s.active ≡ false
+pub none_changed : (class : ℕ → ℕ) (design : Design) (s : State) (entry : Entry) (x : Effect) → move class design s (Change entry) ≡ Some x → has_any s.active ≡ false
 none_changed class design s (Turn n) x at_x = cc
 none_changed class design s (Update n) x at_x = cc
 none_changed class design s ActivateInactive x at_x = none_where_changed class design s ActivateInactive [] x tt at_x
@@ -133,7 +133,7 @@ any_here : {X : Type 0} (P : X → Type 0) (x : X) → P x → Any P (x ∷ [])
 any_here {X} P x h = (0, x, omega arith, refl, h)
 
 module _ (class : ℕ → ℕ) (design : Design) where
-  abbrev moves : Moves OrderedState LooseTransition Footprint
+  abbrev pub moves : Moves OrderedState LooseTransition Footprint
   moves = loose_moves class design
 
   -- transitions of actors are a run of moves
@@ -146,15 +146,15 @@ module _ (class : ℕ → ℕ) (design : Design) where
       let order : IsInOrder x.state = loose_step_keeps_order class design s.0 entry x s.1 step in
       (f, (x.state, order), (entry, x, (step, print), owner_is f.owner a (sym own ∙ transition), refl), refl, lines)
 
-  abbrev AreRun : Effect → OrderedState → List LooseTransition → Effect → Type 0
-  AreRun e s part g = (w : List (LooseTransition × Footprint)) × (u : OrderedState) × Runs moves s w u × (u.0 ≡ g.state) × (g.lines ≡ e.lines ++ printed lines_of w)
+  abbrev pub AreRun : Effect → OrderedState → List LooseTransition → Effect → Type 0
+  AreRun e s part g = (w : List (LooseTransition × Footprint)) × (u : OrderedState) × IsRunOfMoves moves s w u × (u.0 ≡ g.state) × (g.lines ≡ e.lines ++ printed_by_steps lines_of w)
 
   first_actor : (a : LooseTransition) (part : List LooseTransition) → AreActors (a ∷ part) → IsActor a × AreActors part
   first_actor (Process p) part actors = (tt, actors)
   first_actor (FirstOf c) part actors = (tt, actors)
   first_actor (Change entry) part actors = absurd actors
 
-  are_run : (part : List LooseTransition) (e g : Effect) (s : OrderedState) → e.state ≡ s.0 → AreActors part → moves_from class design e part ≡ Some g → AreRun e s part g
+  pub are_run : (part : List LooseTransition) (e g : Effect) (s : OrderedState) → e.state ≡ s.0 → AreActors part → moves_from class design e part ≡ Some g → AreRun e s part g
   are_run [] e g s same actors run =
       let is : e ≡ g = cc in
       ([], s, refl, sym same ∙ ap (λ (z : Effect). z.state) is, ap (λ (z : Effect). z.lines) (sym is) ∙ sym (append-nil e.lines))
@@ -164,12 +164,12 @@ module _ (class : ℕ → ℕ) (design : Design) where
       (λ x at_x later.
       let (f, m, step, leads, lines) = moved s a x actor (ap (λ z. move class design z a) (sym same) ∙ at_x) in
       let (w, u, run_w, ends, all) = are_run part (joined e x) g m (sym leads) others later in
-      ((a, f) ∷ w, u, (m, step, run_w), ends, lines_more e.lines x.lines (printed lines_of w) g.lines f.lines lines all))
+      ((a, f) ∷ w, u, (m, step, run_w), ends, lines_more e.lines x.lines (printed_by_steps lines_of w) g.lines f.lines lines all))
 
   -- and back, up to states that are alike
 
-  abbrev HasWay : Effect → List (LooseTransition × Footprint) → State → Type 0
-  HasWay e v t = (f : Effect) × (moves_from class design e (actors_of v) ≡ Some f) × (f.lines ≡ e.lines ++ printed lines_of v) × AlikeIn class t f.state
+  abbrev pub HasWay : Effect → List (LooseTransition × Footprint) → State → Type 0
+  HasWay e v t = (f : Effect) × (moves_from class design e (actors_of v) ≡ Some f) × (f.lines ≡ e.lines ++ printed_by_steps lines_of v) × AlikeIn class t f.state
 
   step_moves : (s m : OrderedState) (a : LooseTransition) (f : Footprint) (e : Effect) → IsInOrder e.state → AlikeIn class s.0 e.state → IsMove class design s.0 a f m.0
       → (x : Effect) × (move class design e.state a ≡ Some x) × (x.lines ≡ f.lines) × IsInOrder x.state × AlikeIn class m.0 x.state
@@ -180,12 +180,12 @@ module _ (class : ℕ → ℕ) (design : Design) where
       let (entry', transition', step') = move_is_loose_step class design e.state a x order at_x in
       (x, at_x, sym lines_x ∙ sym lines_z ∙ lines, loose_step_keeps_order class design e.state entry' x order step', subst (λ q. AlikeIn class q x.state) leads (states_in-trans class y.state z.state x.state near_z near_x))
 
-  has_way : (v : List (LooseTransition × Footprint)) (s t : OrderedState) (e : Effect) → IsInOrder e.state → AlikeIn class s.0 e.state → Runs moves s v t → HasWay e v t.0
+  pub has_way : (v : List (LooseTransition × Footprint)) (s t : OrderedState) (e : Effect) → IsInOrder e.state → AlikeIn class s.0 e.state → IsRunOfMoves moves s v t → HasWay e v t.0
   has_way [] s t e order near run = (e, refl, sym (append-nil e.lines), subst (λ (q : OrderedState). AlikeIn class q.0 e.state) run near)
   has_way (y ∷ v) s t e order near (m, step, later) =
       let (x, at_x, lines, order', near') = step_moves s m y.0 y.1 e order near step in
       let (f, run, all, near'') = has_way v m t (joined e x) order' near' later in
-      (f, ap (option_and_then (λ z. moves_from class design (joined e z) (actors_of v))) at_x ∙ run, lines_more e.lines x.lines (printed lines_of v) f.lines y.1.lines lines all, near'')
+      (f, ap (option_and_then (λ z. moves_from class design (joined e z) (actors_of v))) at_x ∙ run, lines_more e.lines x.lines (printed_by_steps lines_of v) f.lines y.1.lines lines all, near'')
 
   is_actor : (s m : OrderedState) (a : LooseTransition) (f : Footprint) → IsMove class design s.0 a f m.0 → IsActor a
   is_actor s m a f step =
@@ -193,14 +193,14 @@ module _ (class : ℕ → ℕ) (design : Design) where
       let (number, action, is, own) = laws.waiting s m a f step in
       actor_of class action a own
 
-  are_timely : (limits : Limits) (v : List (LooseTransition × Footprint)) (s t : OrderedState) → Runs moves s v t → AreTimelyMoves limits (actors_of v)
+  pub are_timely : (limits : Limits) (v : List (LooseTransition × Footprint)) (s t : OrderedState) → IsRunOfMoves moves s v t → AreTimelyMoves limits (actors_of v)
   are_timely limits [] s t run = All-nil (IsTimelyMove limits)
   are_timely limits (y ∷ v) s t (m, step, later) =
       All-cons (IsTimelyMove limits) y.0 (actors_of v) (timely limits y.0 (is_actor s m y.0 y.1 step)) (are_timely limits v m t later)
 
   -- what leads on can't go on by events, where it has come to a change of the regions or to an end
 
-  stuck_at : (limits : Limits) (s t u : OrderedState) (v w : List (LooseTransition × Footprint)) (f g : Effect) (rest : List LooseTransition) (end : End) → IsCertificate moves s v t → NobodyWaits class t.0 → Runs moves s w u
+  stuck_at : (limits : Limits) (s t u : OrderedState) (v w : List (LooseTransition × Footprint)) (f g : Effect) (rest : List LooseTransition) (end : End) → IsCertificate moves s v t → NobodyWaits class t.0 → IsRunOfMoves moves s w u
       → u.0 ≡ f.state → ChangesFirst rest → moves_from class design f rest ≡ Some g → EndsHere design limits g end → has_any u.0.active ≡ true → u.0.finished ≡ false → ⊥
   stuck_at limits s t u v w f g [] end cert over run same first goes (most, memory, ends) some going =
       let is : f ≡ g = cc in
@@ -212,7 +212,7 @@ module _ (class : ℕ → ℕ) (design : Design) where
       (λ x at_x later. never_true (has_any u.0.active) some (ap (λ z. has_any z.active) same ∙ none_changed class design f.state entry x at_x))
 
   -- something leads on to where nobody waits, if somebody waits first
-  some_part : (s t u : OrderedState) (v : List (LooseTransition × Footprint)) (f : Effect) (part : List LooseTransition) → v ≢ [] → Runs moves s v t → NobodyWaits class t.0 → u.0 ≡ f.state → AlikeIn class u.0 t.0
+  some_part : (s t u : OrderedState) (v : List (LooseTransition × Footprint)) (f : Effect) (part : List LooseTransition) → v ≢ [] → IsRunOfMoves moves s v t → NobodyWaits class t.0 → u.0 ≡ f.state → AlikeIn class u.0 t.0
       → moves_from class design (silent s.0) part ≡ Some f → 0 < length part
   some_part s t u [] f part some run over is near begins = absurd (some refl)
   some_part s t u (y ∷ v) f (a ∷ part) some run over is near begins = omega arith

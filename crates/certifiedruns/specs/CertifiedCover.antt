@@ -5,7 +5,7 @@ use Rattle.model.specs.Design.{Design}
 use Rattle.model.specs.States.{State}
 use Rattle.orders.specs.Alike.{IsInOrder}
 use Rattle.loose.specs.declared.transition.LooseTransition.{LooseTransition}
-use Rattle.traces.specs.Traces.{Runs}
+use Rattle.traces.specs.Traces.{IsRunOfMoves}
 use Rattle.footprints.specs.Footprints.{Footprint}
 use Rattle.footprints.specs.Moves.{OrderedState, loose_moves}
 use Rattle.certificates.specs.Certified.{AreCertified}
@@ -22,5 +22,5 @@ abbrev pub CertifiedWayCovers : Type 0
 CertifiedWayCovers =
     (class : ℕ → ℕ) (design : Design) (limits : Limits) (s : State) (order : IsInOrder s) (t : OrderedState)
     (v : List (LooseTransition × Footprint)) → v ≢ [] → IsReachedLoosely class design s
-    → Runs (loose_moves class design) (s, order) v t → AreCertified class design v → NobodyWaits class t.0
+    → IsRunOfMoves (loose_moves class design) (s, order) v t → AreCertified class design v → NobodyWaits class t.0
     → CoverMoves class design limits s (actors_of v ∷ [])

@@ -9,7 +9,7 @@ use Rattle.model.specs.declared.end.Why.{Why}
 use Rattle.model.specs.declared.end.Why.TheVariants.{Memory}
 use Rattle.model.specs.declared.end.End.TheVariants.{Quiet}
 use Rattle.model.specs.States.{State, Event, is_evaluation}
-use Rattle.model.specs.Runs.{run, after, has_any, is_quiet, Ends}
+use Rattle.model.specs.Runs.{run, after, has_any, is_quiet, Ends, why_past}
 use Rattle.design.specs.Compiled.{design_of}
 use Rattle.runstate.specs.declared.ledger.Item.TheVariants.{Did, Ended}
 use Rattle.commitgate.specs.Named.{Named}
@@ -21,7 +21,7 @@ use Rattle.regcells.specs.Meetings.{HaveGrown}
 use Rattle.commitgate.specs.Seats.{SeatView}
 use Rattle.commitgate.specs.GateJournals.{Stays}
 use Rattle.commitgate.specs.GateAnswers.{HasNoUpdate, IsRegionChange, MustWait, stopped}
-use Rattle.commitgate.specs.DueRegions.{IsDueChange, IsPassed, why_past}
+use Rattle.commitgate.specs.DueRegions.{IsDueChange, IsPassed}
 use Rattle.commitgate.specs.SeatAnswers.{MemoryCauses, RestCauses, IsQuietTo, IsBusy, IsRefused, IsSeenStopped, HasMetEntry}
 use Rattle.logic4.specs.Vector.{Vector}
 use Rattle.model.specs.declared.end.Limits.{Limits}

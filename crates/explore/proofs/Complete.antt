@@ -3,7 +3,7 @@ use Rattle.std.proofs.Common.{◌≡◌, ℕ, zero, suc, ◌<◌, List, [], ◌�
 use Rattle.std.proofs.lemmas.List.Elements.{Contains-append_left}
 use Rattle.std.proofs.lemmas.List.{get_or_default}
 use Rattle.std.specs.List.{All, Any}
-use Rattle.explore.specs.Grown.{Extends}
+use Rattle.sharing.specs.Parts.{Extends}
 use Rattle.explore.specs.SearchKept.{IsServed}
 use Rattle.explore.specs.SearchedRuns.{Runs}
 use Rattle.explore.specs.Search.{IsShown, Serves, IsFollowed, IsCovered, AreAllShown}

@@ -5,7 +5,8 @@ use Rattle.std.specs.List.{All, Any}
 use Rattle.std.proofs.lemmas.Grind.{common_steps}
 use Rattle.std.proofs.lemmas.List.{get_or_default}
 use Rattle.std.proofs.lemmas.List.Elements.{All-cons}
-use Rattle.explore.specs.Grown.{Extends, grown}
+use Rattle.sharing.specs.Parts.{Extends}
+use Rattle.explore.specs.Grown.{grown}
 use Rattle.explore.specs.Pieces.{pieces}
 use Rattle.explore.specs.Links.{IsEdge, IsRunStep, IsLinked, IsUnmarked, AreClosed}
 use Rattle.explore.specs.SearchKept.{AreKept, Grows, IsServed, LeadsOn, IsContinued, AreContinued, StayUnmarked}

@@ -3,7 +3,8 @@ use Rattle.std.proofs.Common.{◌≡◌, ℕ, zero, suc, ◌+◌, ◌<◌, ◌�
 use Rattle.std.proofs.lemmas.List.{append-nil, get_or_append_left}
 use Rattle.std.proofs.Math.Seq.{get_or-append_seam}
 use Rattle.std.specs.Prelude.{slice_get}
-use Rattle.explore.specs.Grown.{Extends, grown, grown_all}
+use Rattle.sharing.specs.Parts.{Extends}
+use Rattle.explore.specs.Grown.{grown, grown_all}
 
 -- a list extends itself
 pub Extends-itself : {X : Type 0} (xs : List X) → Extends xs xs

@@ -7,7 +7,8 @@ use Rattle.std.proofs.lemmas.List.Quantifiers.{Any-push}
 use Rattle.std.proofs.lemmas.Bool.{cases_lt}
 use Rattle.std.proofs.lemmas.List.{get_or_append_left}
 use Rattle.std.proofs.Math.Seq.{get_or-append_seam}
-use Rattle.explore.specs.Grown.{Extends, IsLastPart, grown}
+use Rattle.sharing.specs.Parts.{Extends}
+use Rattle.explore.specs.Grown.{IsLastPart, grown}
 use Rattle.explore.specs.Pieces.{pieces}
 use Rattle.explore.specs.Placed.{IsPlaced, ArePlaced}
 use Rattle.explore.specs.SearchKept.{IsText, IsVisited, AreKept, Grows}

@@ -4,7 +4,8 @@ use Rattle.std.specs.Prelude.{IfSome}
 use Rattle.std.specs.List.{All, Any, Contains}
 use Rattle.std.proofs.lemmas.List.{get_or_default}
 use Rattle.std.proofs.lemmas.List.Elements.{All-push, All-contains, Contains-append_left, Contains-append_right}
-use Rattle.explore.specs.Grown.{Extends, IsLastPart}
+use Rattle.sharing.specs.Parts.{Extends}
+use Rattle.explore.specs.Grown.{IsLastPart}
 use Rattle.explore.specs.Placed.{IsNodeAt, IsPlaced, ArePlaced, AreStood}
 use Rattle.explore.specs.SearchedRuns.{Runs}
 use Rattle.explore.specs.declared.again.Nodes.{Nodes}

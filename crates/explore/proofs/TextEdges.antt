@@ -7,7 +7,8 @@ use Rattle.std.proofs.lemmas.List.Quantifiers.{position-Some}
 use Rattle.std.proofs.Math.Dec.{eqb}
 use Rattle.std.specs.Prelude.{slice_get}
 use Rattle.std.specs.Cmp.Lexicographic.{pointwise, bytes_decides}
-use Rattle.explore.specs.Grown.{Extends, grown, grown_all}
+use Rattle.sharing.specs.Parts.{Extends}
+use Rattle.explore.specs.Grown.{grown, grown_all}
 use Rattle.explore.specs.NumberedTexts.{text_step, joined_groups, AreTextEdges}
 use Rattle.explore.specs.declared.text_table.TextEdge.{TextEdge}
 use Rattle.explore.proofs.Growing.{Extends-itself, length-extends, length-grown_all, get_or-grown_all, get_or-extends, grown_all-push, grown_all-extends, slice_get_push}

@@ -1,10 +1,6 @@
 -- Lists that grow from one another.
 use Rattle.std.specs.Prelude.{◌≡◌, ℕ, List, [], ◌∷◌, ◌++◌, get_or}
 
--- the second list is the first one, with more after it
-abbrev pub Extends : {X : Type 0} → List X → List X → Type 0
-Extends {X} old new = (added : List X) × (new ≡ old ++ added)
-
 -- the first list is the last part of the second
 abbrev pub IsLastPart : {X : Type 0} → List X → List X → Type 0
 IsLastPart {X} part whole = (gone : List X) × (whole ≡ gone ++ part)

@@ -1,6 +1,7 @@
 -- The texts that have numbers.
 use Rattle.std.specs.Prelude.{◌≡◌, ℕ, ◌<◌, ◌≤◌, List, [], ◌∷◌, ◌++◌, flat_map, get_or, length, map, Some, slice_get, vec_items}
-use Rattle.explore.specs.Grown.{Extends, grown_all}
+use Rattle.sharing.specs.Parts.{Extends}
+use Rattle.explore.specs.Grown.{grown_all}
 use Rattle.explore.specs.declared.line_groups.LineGroups.{LineGroups}
 use Rattle.explore.specs.declared.text_table.TextEdge.{TextEdge}
 use Rattle.explore.specs.declared.text_table.TextTable.{TextTable}

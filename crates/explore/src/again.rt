@@ -5,7 +5,7 @@
 //! of them costs about as many moves as it has runs, times the logarithm of that. Which checkpoints there are is no matter of what is made.
 ghost use Rattle.std.specs.Prelude.{◌≡◌, ◌<◌, [], length, get_or, IfOk, OnOk};
 ghost use Rattle.std.specs.List.{All};
-ghost use Rattle.explore.specs.Grown.{Extends};
+ghost use Rattle.sharing.specs.Parts.{Extends};
 ghost use Rattle.explore.specs.Lineage.{ways, IsLineage};
 ghost use Rattle.explore.specs.Placed.{ArePlaced, AreStood, IsPlaced, IsReachedRun};
 

@@ -1,6 +1,6 @@
 //! Groups of lines, each kept once.
 ghost use Rattle.std.specs.Prelude.{◌≡◌, ◌<◌, ◌≤◌, [], length, Some, slice_get, get_or, IfOk, IfSome, OnOk};
-ghost use Rattle.explore.specs.Grown.{Extends};
+ghost use Rattle.sharing.specs.Parts.{Extends};
 ghost use Rattle.explore.specs.NumberedTexts.{line_groups};
 
 use indexmap::IndexSet;

@@ -1,6 +1,6 @@
 //! What is known of each node besides its run: whether a run may come to an end at it, and the nodes to which its ways lead.
 ghost use Rattle.std.specs.Prelude.{◌≡◌, ◌⊎◌, ℕ, [], ◌∷◌, ◌++◌, true, false, get_or, None, IsTrue, IfOk, OnOk};
-ghost use Rattle.explore.specs.Grown.{Extends};
+ghost use Rattle.sharing.specs.Parts.{Extends};
 ghost use Rattle.explore.specs.Links.{IsEdgeTo};
 
 use sharing::narrow;

@@ -1,7 +1,8 @@
 //! The newest of some nodes, each with the number of its run.
 ghost use Rattle.std.specs.Prelude.{◌≡◌, ◌++◌, [], ◌∷◌, IfSome, OnOk};
 ghost use Rattle.std.specs.List.{Any};
-ghost use Rattle.explore.specs.Grown.{Extends, IsLastPart};
+ghost use Rattle.sharing.specs.Parts.{Extends};
+ghost use Rattle.explore.specs.Grown.{IsLastPart};
 ghost use Rattle.explore.specs.Placed.{IsNodeAt};
 
 use std::alloc::{AllocError, Global};

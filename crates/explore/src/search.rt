@@ -1,7 +1,7 @@
 //! The search.
 ghost use Rattle.std.specs.Prelude.{◌≡◌, ◌<◌, ◌≤◌, ◌⊎◌, [], true, false, length, get_or, None, Some, IsTrue, IfOk, IfSome, OnOk};
 ghost use Rattle.std.specs.List.{All, AllPairs};
-ghost use Rattle.explore.specs.Grown.{Extends};
+ghost use Rattle.sharing.specs.Parts.{Extends};
 ghost use Rattle.explore.specs.SearchKept.{AreContinued, AreKept, Grows, IsPendingNode};
 ghost use Rattle.explore.specs.Search.{AreAllShown, AreCounted, AreDistinct, IsEndless, IsFollowed, IsOfRun, IsShown, Serves};
 ghost use Rattle.explore.specs.Outcome.{stopped_of};

@@ -1,7 +1,7 @@
 //! What is shown.
 ghost use Rattle.std.specs.Prelude.{◌≡◌, ◌≤◌, ◌++◌, ◌↔◌, [], false, length, get_or, IsTrue, IfOk};
 ghost use Rattle.std.specs.List.{All, AllPairs};
-ghost use Rattle.explore.specs.Grown.{Extends};
+ghost use Rattle.sharing.specs.Parts.{Extends};
 ghost use Rattle.explore.specs.SearchKept.{HoldsRun};
 ghost use Rattle.explore.specs.Search.{AreDistinct, Differs, IsEndedPath, IsOfRun, IsShown};
 ghost use Rattle.explore.specs.Lineage.{ways};

@@ -17,7 +17,7 @@ use Rattle.orders.proofs.EventLists.{present_from}
 use Rattle.orders.proofs.AlikeSteps.{continuation_of}
 use Rattle.loose.specs.declared.transition.LooseTransition.TheVariants.{Process, FirstOf}
 use Rattle.loose.specs.Loose.{of_class, updates_of_class, AlikeIn, has_earlier_of_class, loose_update_refusal, loose_entry_refusal, loose_transition_of_action, loose_transition_of}
-use Rattle.footprints.specs.Footprints.{Footprint, changes_made, woken_by, awaited_by, assigned, turn_footprint, update_footprint, action_footprint, footprint}
+use Rattle.footprints.specs.Footprints.{Footprint, changes_made, woken_by_changes, awaited_by_all, assigned, turn_footprint, update_footprint, action_footprint, footprint}
 use Rattle.footprints.specs.FootprintLaws.{FootprintTells, FootprintIsAlike}
 use Rattle.footprints.proofs.ValueChanges.{neither, written_values, values_made}
 use Rattle.footprints.proofs.Deeds.{Deed, Done}
@@ -83,11 +83,11 @@ is_of_class class c (Some (Action.Update q w)) h =
 
 abbrev turn_print_in : (ℕ → ℕ) → ℕ → Turn → Store → List Continuation → Footprint
 turn_print_in class p t store ps =
-    record { owner = Process p; uses = t.uses; writes = t.writes; changes = changes_made store t.writes; awaits = triggers_of t.wait; woken = woken_by (changes_made store t.writes) ps; ended = awaited_by ps (p ∷ woken_by (changes_made store t.writes) ps); assigns = assigned class t.nbas; lines = t.lines; strobes = has_any t.strobes; finishes = t.finish }
+    record { owner = Process p; uses = t.uses; writes = t.writes; changes = changes_made store t.writes; awaits = triggers_of t.wait; woken = woken_by_changes (changes_made store t.writes) ps; ended = awaited_by_all ps (p ∷ woken_by_changes (changes_made store t.writes) ps); assigns = assigned class t.nbas; lines = t.lines; strobes = has_any t.strobes; finishes = t.finish }
 
 abbrev update_print_in : (ℕ → ℕ) → ℕ → Vector → Store → List Continuation → Footprint
 update_print_in class r v store ps =
-    record { owner = FirstOf (class r); uses = []; writes = (r, v) ∷ []; changes = changes_made store ((r, v) ∷ []); awaits = []; woken = woken_by (changes_made store ((r, v) ∷ [])) ps; ended = awaited_by ps (woken_by (changes_made store ((r, v) ∷ [])) ps); assigns = []; lines = []; strobes = false; finishes = false }
+    record { owner = FirstOf (class r); uses = []; writes = (r, v) ∷ []; changes = changes_made store ((r, v) ∷ []); awaits = []; woken = woken_by_changes (changes_made store ((r, v) ∷ [])) ps; ended = awaited_by_all ps (woken_by_changes (changes_made store ((r, v) ∷ [])) ps); assigns = []; lines = []; strobes = false; finishes = false }
 
 same_turn_print : (class : ℕ → ℕ) (s t : State) (p : ℕ) (turn : Turn) → AlikeIn class s t → turn_footprint class t p turn ≡ turn_footprint class s p turn
 same_turn_print class s t p turn h =

@@ -11,7 +11,7 @@ use Rattle.orders.specs.Apart.{all_given, continuation_after, updates_for}
 use Rattle.orders.proofs.StatesInOrder.{in_order-change_all, in_order-taking, in_order-schedule_all, in_order-turned}
 use Rattle.orders.proofs.Stores.{append-none}
 use Rattle.orders.proofs.Scheduling.{Scheduled, Waiting, schedule_all_is, schedule_wait_is, later_updates, later_times, waits_now, waits_at, wait_times}
-use Rattle.footprints.specs.Footprints.{ValueChange, changes_made}
+use Rattle.footprints.specs.Footprints.{RegisterChange, changes_made}
 use Rattle.footprints.proofs.Waking.{after_changes, woken_from, evaluations_made, change_all_is}
 
 -- what a step does: the number of the event that it takes, its writes, what its own process is after it, if it has one, and what it
@@ -41,7 +41,7 @@ placed None ps = ps
 placed (Some own) ps = slice_set ps own.0 own.1
 
 -- the changes of a deed
-abbrev pub changes_by : State → Deed → List ValueChange
+abbrev pub changes_by : State → Deed → List RegisterChange
 changes_by s d = changes_made s.store d.writes
 
 -- a state after a deed

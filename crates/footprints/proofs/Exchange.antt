@@ -18,18 +18,18 @@ use Rattle.orders.proofs.Scheduling.{later_updates, later_times, waits_now, wait
 use Rattle.orders.proofs.Commuting.{apart_commute, swap_last, register-append, without_both}
 use Rattle.orders.proofs.AlikeSteps.{continuation_of}
 use Rattle.loose.specs.Loose.{of_class, AlikeIn}
-use Rattle.footprints.specs.Footprints.{ValueChange, matches_any}
+use Rattle.footprints.specs.Footprints.{RegisterChange, matches_any}
 use Rattle.footprints.proofs.ValueChanges.{neither, same_changes}
 use Rattle.footprints.proofs.Waking.{nothing, awake, woken_from, wakes_process, one_where, evaluations_made, asleep, made_evaluations, made_updates}
 use Rattle.footprints.proofs.Deeds.{Deed, Done, placed, changes_by}
 
 -- changes wake neither a process nor what it is after its turn
-abbrev pub NotWoken : List ValueChange → List Continuation → Option (ℕ × Continuation) → Type 0
+abbrev pub NotWoken : List RegisterChange → List Continuation → Option (ℕ × Continuation) → Type 0
 NotWoken cs ps None = Unit {0}
 NotWoken cs ps (Some own) = (matches_any own.1.triggers cs ≡ false) × (wakes_process cs ps own.0 ≡ false)
 
 -- changes don't wake the process of a deed, if it has one, as it is before it
-abbrev pub StaysAsleep : List ValueChange → List Continuation → Option (ℕ × Continuation) → Type 0
+abbrev pub StaysAsleep : List RegisterChange → List Continuation → Option (ℕ × Continuation) → Type 0
 StaysAsleep cs ps None = Unit {0}
 StaysAsleep cs ps (Some own) = wakes_process cs ps own.0 ≡ false
 
@@ -70,16 +70,16 @@ nothing_if : (b : Bool) → awake b nothing ≡ nothing
 nothing_if true = refl
 nothing_if false = refl
 
-pub from_at : (cs : List ValueChange) (ps : List Continuation) (p : ℕ) → continuation_of (map (woken_from cs) ps) p ≡ woken_from cs (continuation_of ps p)
+pub from_at : (cs : List RegisterChange) (ps : List Continuation) (p : ℕ) → continuation_of (map (woken_from cs) ps) p ≡ woken_from cs (continuation_of ps p)
 from_at cs [] p = sym (nothing_if (matches_any [] cs))
 from_at cs (x ∷ ps) zero = refl
 from_at cs (x ∷ ps) (suc p) = from_at cs ps p
 
-woken_if : (cs : List ValueChange) (x : Continuation) (b : Bool) → (b ≡ true → matches_any x.triggers cs ≡ false) → matches_any (awake b x).triggers cs ≡ matches_any x.triggers cs
+woken_if : (cs : List RegisterChange) (x : Continuation) (b : Bool) → (b ≡ true → matches_any x.triggers cs ≡ false) → matches_any (awake b x).triggers cs ≡ matches_any x.triggers cs
 woken_if cs x true h = asleep cs ∙ sym (h refl)
 woken_if cs x false h = refl
 
-all_stay : (cs ds : List ValueChange) (ps : List Continuation) (p : ℕ) → (wakes_process ds ps p ≡ true → wakes_process cs ps p ≡ false) → wakes_process cs (map (woken_from ds) ps) p ≡ wakes_process cs ps p
+all_stay : (cs ds : List RegisterChange) (ps : List Continuation) (p : ℕ) → (wakes_process ds ps p ≡ true → wakes_process cs ps p ≡ false) → wakes_process cs (map (woken_from ds) ps) p ≡ wakes_process cs ps p
 all_stay cs ds ps p h =
     ap (λ x. matches_any x.triggers cs) (from_at ds ps p) ∙ woken_if cs (continuation_of ps p) (wakes_process ds ps p) h
 
@@ -99,7 +99,7 @@ get_other (z ∷ ps) zero (suc q) x h = refl
 get_other (z ∷ ps) (suc p) zero x h = refl
 get_other (z ∷ ps) (suc p) (suc q) x h = get_other ps p q x (λ same. h (ap suc same))
 
-set_at : (cs : List ValueChange) (ps : List Continuation) (p : ℕ) (x : Continuation) → matches_any x.triggers cs ≡ false → wakes_process cs ps p ≡ false → wakes_process cs (slice_set ps p x) p ≡ false
+set_at : (cs : List RegisterChange) (ps : List Continuation) (p : ℕ) (x : Continuation) → matches_any x.triggers cs ≡ false → wakes_process cs ps p ≡ false → wakes_process cs (slice_set ps p x) p ≡ false
 set_at cs [] p x h g = g
 set_at cs (y ∷ ps) zero x h g = h
 set_at cs (y ∷ ps) (suc p) x h g = set_at cs ps p x h g
@@ -107,7 +107,7 @@ set_at cs (y ∷ ps) (suc p) x h g = set_at cs ps p x h g
 pub differs : (p q : ℕ) → (p == q) ≡ false → p ≢ q
 differs p q other same = true≢false (sym (eq-eqb p q same) ∙ other)
 
-set_stays : (cs : List ValueChange) (ps qs : List Continuation) (own : ℕ × Continuation) (p : ℕ) (b : Bool) → (own.0 == p) ≡ b → matches_any own.1.triggers cs ≡ false → wakes_process cs ps own.0 ≡ false
+set_stays : (cs : List RegisterChange) (ps qs : List Continuation) (own : ℕ × Continuation) (p : ℕ) (b : Bool) → (own.0 == p) ≡ b → matches_any own.1.triggers cs ≡ false → wakes_process cs ps own.0 ≡ false
     → wakes_process cs qs own.0 ≡ wakes_process cs ps own.0 → wakes_process cs qs p ≡ wakes_process cs ps p → wakes_process cs (slice_set qs own.0 own.1) p ≡ wakes_process cs ps p
 set_stays cs ps qs own p true is new old own_same same =
     let one : own.0 ≡ p = eqb-true own.0 p is in
@@ -115,7 +115,7 @@ set_stays cs ps qs own p true is new old own_same same =
 set_stays cs ps qs own p false is new old own_same same =
     ap (λ x. matches_any x.triggers cs) (get_other qs own.0 p own.1 (differs own.0 p is)) ∙ same
 
-placed_stays : (cs : List ValueChange) (ps qs : List Continuation) (o : Option (ℕ × Continuation)) (p : ℕ) → NotWoken cs ps o → ((p : ℕ) → wakes_process cs qs p ≡ wakes_process cs ps p)
+placed_stays : (cs : List RegisterChange) (ps qs : List Continuation) (o : Option (ℕ × Continuation)) (p : ℕ) → NotWoken cs ps o → ((p : ℕ) → wakes_process cs qs p ≡ wakes_process cs ps p)
     → wakes_process cs (placed o qs) p ≡ wakes_process cs ps p
 placed_stays cs ps qs None p none same = same p
 placed_stays cs ps qs (Some own) p none same = set_stays cs ps qs own p (own.0 == p) refl none.0 none.1 (same own.0) (same p)
@@ -159,11 +159,11 @@ new_stay m k xs actions less =
 
 -- the active events, without those that were made
 
-made_apart : (xs : List Event) (k : ℕ) (cs : List ValueChange) (ps : List Continuation) → updates_in (xs ++ enumerate_from k (evaluations_made cs ps)) ≡ updates_in xs
+made_apart : (xs : List Event) (k : ℕ) (cs : List RegisterChange) (ps : List Continuation) → updates_in (xs ++ enumerate_from k (evaluations_made cs ps)) ≡ updates_in xs
 made_apart xs k cs ps =
     updates-append xs (enumerate_from k (evaluations_made cs ps)) ∙ ap (λ us. updates_in xs ++ us) (made_updates k cs ps) ∙ append-none (updates_in xs)
 
-made_more : (o : ℕ) (xs : List Event) (k : ℕ) (cs : List ValueChange) (ps : List Continuation) → evaluations_in o (xs ++ enumerate_from k (evaluations_made cs ps)) ≡ evaluations_in o xs + one_where (wakes_process cs ps o)
+made_more : (o : ℕ) (xs : List Event) (k : ℕ) (cs : List RegisterChange) (ps : List Continuation) → evaluations_in o (xs ++ enumerate_from k (evaluations_made cs ps)) ≡ evaluations_in o xs + one_where (wakes_process cs ps o)
 made_more o xs k cs ps =
     evaluations-append o xs (enumerate_from k (evaluations_made cs ps)) ∙ ap (λ n. evaluations_in o xs + n) (made_evaluations o k cs ps)
 
@@ -199,12 +199,12 @@ both_are s f g d e h i off less =
 
 -- processes, in either order
 
-map_set : (cs : List ValueChange) (ps : List Continuation) (p : ℕ) (x : Continuation) → map (woken_from cs) (slice_set ps p x) ≡ slice_set (map (woken_from cs) ps) p (woken_from cs x)
+map_set : (cs : List RegisterChange) (ps : List Continuation) (p : ℕ) (x : Continuation) → map (woken_from cs) (slice_set ps p x) ≡ slice_set (map (woken_from cs) ps) p (woken_from cs x)
 map_set cs [] p x = refl
 map_set cs (y ∷ ps) zero x = refl
 map_set cs (y ∷ ps) (suc p) x = ap (λ ys. woken_from cs y ∷ ys) (map_set cs ps p x)
 
-map_placed : (cs : List ValueChange) (ps qs : List Continuation) (o : Option (ℕ × Continuation)) → NotWoken cs qs o → map (woken_from cs) (placed o ps) ≡ placed o (map (woken_from cs) ps)
+map_placed : (cs : List RegisterChange) (ps qs : List Continuation) (o : Option (ℕ × Continuation)) → NotWoken cs qs o → map (woken_from cs) (placed o ps) ≡ placed o (map (woken_from cs) ps)
 map_placed cs ps qs None none = refl
 map_placed cs ps qs (Some own) none =
     map_set cs ps own.0 own.1 ∙ ap (λ b. slice_set (map (woken_from cs) ps) own.0 (awake b own.1)) none.0
@@ -214,19 +214,19 @@ placed_swap None q ps differ = refl
 placed_swap (Some own) None ps differ = refl
 placed_swap (Some own) (Some other) ps differ = set_both ps own.0 other.0 own.1 other.1 differ
 
-twice : (cs ds : List ValueChange) (x : Continuation) (b c : Bool) → matches_any x.triggers ds ≡ b → matches_any x.triggers cs ≡ c → woken_from cs (awake b x) ≡ woken_from ds (awake c x)
+twice : (cs ds : List RegisterChange) (x : Continuation) (b c : Bool) → matches_any x.triggers ds ≡ b → matches_any x.triggers cs ≡ c → woken_from cs (awake b x) ≡ woken_from ds (awake c x)
 twice cs ds x true true g h = rw (asleep cs, asleep ds) refl
 twice cs ds x true false g h = rw (asleep cs, g) refl
 twice cs ds x false true g h = rw (asleep ds, h) refl
 twice cs ds x false false g h = rw (g, h) refl
 
-all_swap : (cs ds : List ValueChange) (ps : List Continuation) → map (woken_from cs) (map (woken_from ds) ps) ≡ map (woken_from ds) (map (woken_from cs) ps)
+all_swap : (cs ds : List RegisterChange) (ps : List Continuation) → map (woken_from cs) (map (woken_from ds) ps) ≡ map (woken_from ds) (map (woken_from cs) ps)
 all_swap cs ds [] = refl
 all_swap cs ds (x ∷ ps) =
     ap (λ y. y ∷ map (woken_from cs) (map (woken_from ds) ps)) (twice cs ds x (matches_any x.triggers ds) (matches_any x.triggers cs) refl refl)
     ∙ ap (λ ys. woken_from ds (woken_from cs x) ∷ ys) (all_swap cs ds ps)
 
-processes_swap : (cs ds : List ValueChange) (ps : List Continuation) (o q : Option (ℕ × Continuation)) → Differ o q → NotWoken cs ps o → NotWoken ds ps q
+processes_swap : (cs ds : List RegisterChange) (ps : List Continuation) (o q : Option (ℕ × Continuation)) → Differ o q → NotWoken cs ps o → NotWoken ds ps q
     → placed q (map (woken_from cs) (placed o (map (woken_from ds) ps))) ≡ placed o (map (woken_from ds) (placed q (map (woken_from cs) ps)))
 processes_swap cs ds ps o q differ none none' =
     ap (placed q) (map_placed cs (map (woken_from ds) ps) ps o none) ∙ placed_swap o q (map (woken_from cs) (map (woken_from ds) ps)) differ

@@ -11,7 +11,7 @@ use Rattle.model.specs.Turns as turns
 use Rattle.model.specs.States.{Action, Continuation, State, start, updated}
 use Rattle.loose.specs.declared.transition.LooseTransition.{LooseTransition}
 use Rattle.loose.specs.declared.transition.LooseTransition.TheVariants.{Process, FirstOf, Change}
-use Rattle.footprints.specs.Footprints.{ValueChange, Footprint, turn_footprint, update_footprint, footprint, AreApart}
+use Rattle.footprints.specs.Footprints.{RegisterChange, Footprint, turn_footprint, update_footprint, footprint, AreApart}
 
 abbrev low : Vector
 low = Zero ∷ []
@@ -40,10 +40,10 @@ abbrev setting : Store → List Continuation → State
 setting store processes =
     record (start two) { store = store; processes = processes; active = (0, Action.Update 0 high) ∷ (1, Action.Update 1 high) ∷ []; next_event = 2 }
 
-abbrev change_of : ℕ → Vector → ValueChange
+abbrev change_of : ℕ → Vector → RegisterChange
 change_of r before = record { register = r; before = before; after = high }
 
-abbrev print_of : ℕ → List ValueChange → List ℕ → List Trigger → Footprint
+abbrev print_of : ℕ → List RegisterChange → List ℕ → List Trigger → Footprint
 print_of r changes woken ended =
     record { owner = FirstOf r; uses = []; writes = (r, high) ∷ []; changes = changes; awaits = []; woken = woken; ended = ended; assigns = []; lines = []; strobes = false; finishes = false }
 

@@ -12,7 +12,7 @@ use Rattle.orders.specs.Alike.{IsInOrder}
 use Rattle.orders.proofs.Stores.{append-none}
 use Rattle.loose.specs.declared.transition.LooseTransition.{LooseTransition}
 use Rattle.loose.specs.Loose.{loose_step, loose_run_from}
-use Rattle.traces.specs.Traces.{Runs, printed}
+use Rattle.traces.specs.Traces.{IsRunOfMoves, printed_by_steps}
 use Rattle.footprints.specs.Footprints.{Footprint, turn_footprint, update_footprint, action_footprint, footprint}
 use Rattle.footprints.specs.FootprintLaws.{IsStepWith}
 use Rattle.footprints.specs.Moves.{OrderedState, IsMove, loose_moves, TakeEvents, MovesAreRuns, RunsAreMoves}
@@ -22,7 +22,7 @@ use Rattle.footprints.proofs.LooseMoves.{step_order}
 
 -- what the steps of a run print
 abbrev shown : List (LooseTransition × Footprint) → List ℕ
-shown w = printed (λ f. f.lines) w
+shown w = printed_by_steps (λ f. f.lines) w
 
 -- the lines of one step more
 lines_more : (lines first more all : List ℕ) (f : List ℕ) → first ≡ f → all ≡ (lines ++ first) ++ more → all ≡ lines ++ (f ++ more)
@@ -42,7 +42,7 @@ taken_before class design s ActivateNba f x entries (step, print) take = cc
 taken_before class design s ActivateMonitor f x entries (step, print) take = cc
 taken_before class design s (Advance time) f x entries (step, print) take = cc
 
-run_of : (class : ℕ → ℕ) (design : Design) (w : List (LooseTransition × Footprint)) (e : Effect) (s t : OrderedState) → e.state ≡ s.0 → Runs (loose_moves class design) s w t → IsRunOf class design e w t.0
+run_of : (class : ℕ → ℕ) (design : Design) (w : List (LooseTransition × Footprint)) (e : Effect) (s t : OrderedState) → e.state ≡ s.0 → IsRunOfMoves (loose_moves class design) s w t → IsRunOf class design e w t.0
 run_of class design [] e s t same run = ([], e, tt, refl, same ∙ ap (λ (z : OrderedState). z.0) run, sym (append-none e.lines))
 run_of class design ((a, f) ∷ w) e s t same (m, (entry, x, step, owner, leads), later) =
     let (entries, g, take, run, state, lines) = run_of class design w (joined e x) m t leads later in
@@ -87,7 +87,7 @@ step_print class design s (Advance time) x entries take step = absurd take
 
 abbrev AreMovesOf : (ℕ → ℕ) → Design → Effect → OrderedState → Effect → Type 0
 AreMovesOf class design e s g =
-    (w : List (LooseTransition × Footprint)) × (t : OrderedState) × Runs (loose_moves class design) s w t × (t.0 ≡ g.state) × (g.lines ≡ e.lines ++ shown w)
+    (w : List (LooseTransition × Footprint)) × (t : OrderedState) × IsRunOfMoves (loose_moves class design) s w t × (t.0 ≡ g.state) × (g.lines ≡ e.lines ++ shown w)
 
 moves_of : (class : ℕ → ℕ) (design : Design) (entries : List Entry) (e g : Effect) (order : IsInOrder e.state) → TakeEvents entries → loose_run_from class design e entries ≡ Some g → AreMovesOf class design e (e.state, order) g
 moves_of class design [] e g order take run =

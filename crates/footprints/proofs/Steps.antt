@@ -23,7 +23,7 @@ use Rattle.orders.proofs.Commuting.{still_there}
 use Rattle.orders.proofs.AlikeSteps.{continuation_of}
 use Rattle.loose.specs.declared.transition.LooseTransition.TheVariants.{Process, FirstOf}
 use Rattle.loose.specs.Loose.{loose_transition_of_action, updates_class, has_earlier_of_class, loose_update_refusal, loose_entry_refusal, loose_refusal, loose_step}
-use Rattle.footprints.specs.Footprints.{ValueChange, Footprint, changes_made, changed, woken_by, awaited_by, concerned, assigned, turn_footprint, update_footprint, action_footprint, footprint}
+use Rattle.footprints.specs.Footprints.{RegisterChange, Footprint, changes_made, changed_registers, woken_by_changes, awaited_by_all, concerned, assigned, turn_footprint, update_footprint, action_footprint, footprint}
 use Rattle.footprints.specs.FootprintLaws.{IsStepWith, HasSameOutput}
 use Rattle.footprints.proofs.ValueChanges.{neither, written_values, values_made, unchanged}
 use Rattle.footprints.proofs.Waking.{awake, woken_from, wakes_process, evaluations_made, same_woken}
@@ -138,8 +138,8 @@ Matches class s d x f =
       active : (a : Action) × (action_in s.active d.number ≡ Some a) × (loose_transition_of_action class (Some a) ≡ Some f.owner);
       writes : f.writes ≡ d.writes;
       changes : f.changes ≡ changes_by s d;
-      woken : f.woken ≡ woken_by (changes_by s d) s.processes;
-      ended : f.ended ≡ awaited_by s.processes (concerned f);
+      woken : f.woken ≡ woken_by_changes (changes_by s d) s.processes;
+      ended : f.ended ≡ awaited_by_all s.processes (concerned f);
       own : OwnIs f d.own;
       assigns : f.assigns ≡ assigned class d.nbas;
       lines : f.lines ≡ x.lines;
@@ -236,7 +236,7 @@ remainder_stays s f d q x h differ =
     ∙ ap (λ y. y.remainder) (placed_other d.own (map (woken_from (changes_by s d)) s.processes) q x differ ∙ from_at (changes_by s d) s.processes q)
     ∙ remainder_if (wakes_process (changes_by s d) s.processes q) (continuation_of s.processes q)
 
-turn_stays : (design : Design) (s f : State) (d : Deed) (q : ℕ) (u : Turn) → Done s d f → Differ d.own (Some (q, continuation_after u)) → ((r : ℕ) → contains u.uses r ≡ true → contains (changed (changes_by s d)) r ≡ false)
+turn_stays : (design : Design) (s f : State) (d : Deed) (q : ℕ) (u : Turn) → Done s d f → Differ d.own (Some (q, continuation_after u)) → ((r : ℕ) → contains u.uses r ≡ true → contains (changed_registers (changes_by s d)) r ≡ false)
     → turn_of design s q ≡ Some u → turn_of design f q ≡ Some u
 turn_stays design s f d q u h differ uses is =
     let len : length s.store ≡ length f.store = sym (ap length h.store ∙ length_all s.store d.writes) in
@@ -245,7 +245,7 @@ turn_stays design s f d q u h differ uses is =
     ∙ turn_has_frame design q (remainder_of s q) s.store f.store s.time u len is agree
 
 -- and had it before
-pub turn_was : (design : Design) (s f : State) (d : Deed) (q : ℕ) (u : Turn) → Done s d f → Differ d.own (Some (q, continuation_after u)) → ((r : ℕ) → contains u.uses r ≡ true → contains (changed (changes_by s d)) r ≡ false)
+pub turn_was : (design : Design) (s f : State) (d : Deed) (q : ℕ) (u : Turn) → Done s d f → Differ d.own (Some (q, continuation_after u)) → ((r : ℕ) → contains u.uses r ≡ true → contains (changed_registers (changes_by s d)) r ≡ false)
     → turn_of design f q ≡ Some u → turn_of design s q ≡ Some u
 turn_was design s f d q u h differ uses is =
     let len : length f.store ≡ length s.store = ap length h.store ∙ length_all s.store d.writes in
@@ -265,28 +265,28 @@ length_placed : (o : Option (ℕ × Continuation)) (ps : List Continuation) → 
 length_placed None ps = refl
 length_placed (Some own) ps = length_set ps own.0 own.1
 
-length_from : (cs : List ValueChange) (ps : List Continuation) → length (map (woken_from cs) ps) ≡ length ps
+length_from : (cs : List RegisterChange) (ps : List Continuation) → length (map (woken_from cs) ps) ≡ length ps
 length_from cs [] = refl
 length_from cs (x ∷ ps) = ap suc (length_from cs ps)
 
-woken_stay : (s f : State) (d e : Deed) → Done s d f → Leaves s d e → woken_by (changes_by f e) f.processes ≡ woken_by (changes_by s e) s.processes
+woken_stay : (s f : State) (d e : Deed) → Done s d f → Leaves s d e → woken_by_changes (changes_by f e) f.processes ≡ woken_by_changes (changes_by s e) s.processes
 woken_stay s f d e h off =
     let len : length f.processes ≡ length s.processes = ap length h.processes ∙ length_placed d.own (map (woken_from (changes_by s d)) s.processes) ∙ length_from (changes_by s d) s.processes in
-    ap (λ cs. woken_by cs f.processes) (changes_stay s f d e h off) ∙ same_woken (changes_by s e) f.processes s.processes len (λ p. wakes_stay s f d e p h off)
+    ap (λ cs. woken_by_changes cs f.processes) (changes_stay s f d e h off) ∙ same_woken (changes_by s e) f.processes s.processes len (λ p. wakes_stay s f d e p h off)
 
 -- the triggers that its own process and those that it wakes wait for
 triggers_stay : (s f : State) (d e : Deed) → Done s d f → Leaves s d e → Differ d.own e.own
-    → awaited_by f.processes (own_of e.own ++ woken_by (changes_by f e) f.processes) ≡ awaited_by s.processes (own_of e.own ++ woken_by (changes_by s e) s.processes)
+    → awaited_by_all f.processes (own_of e.own ++ woken_by_changes (changes_by f e) f.processes) ≡ awaited_by_all s.processes (own_of e.own ++ woken_by_changes (changes_by s e) s.processes)
 triggers_stay s f d e h off differ =
-    ap (λ ws. awaited_by f.processes (own_of e.own ++ ws)) (woken_stay s f d e h off)
-    ∙ same_awaited f.processes s.processes (own_of e.own ++ woken_by (changes_by s e) s.processes)
+    ap (λ ws. awaited_by_all f.processes (own_of e.own ++ ws)) (woken_stay s f d e h off)
+    ∙ same_awaited f.processes s.processes (own_of e.own ++ woken_by_changes (changes_by s e) s.processes)
     (λ p is. triggers_kept s f d (changes_by s e) e.own p h off.waits off.wakes off.own differ is)
 
-abbrev turn_print : (ℕ → ℕ) → ℕ → Turn → List ValueChange → List ℕ → List Trigger → Footprint
+abbrev turn_print : (ℕ → ℕ) → ℕ → Turn → List RegisterChange → List ℕ → List Trigger → Footprint
 turn_print class q u cs ws ts =
     record { owner = Process q; uses = u.uses; writes = u.writes; changes = cs; awaits = triggers_of u.wait; woken = ws; ended = ts; assigns = assigned class u.nbas; lines = u.lines; strobes = has_any u.strobes; finishes = u.finish }
 
-abbrev update_print : (ℕ → ℕ) → ℕ → Vector → List ValueChange → List ℕ → List Trigger → Footprint
+abbrev update_print : (ℕ → ℕ) → ℕ → Vector → List RegisterChange → List ℕ → List Trigger → Footprint
 update_print class r v cs ws ts =
     record { owner = FirstOf (class r); uses = []; writes = (r, v) ∷ []; changes = cs; awaits = []; woken = ws; ended = ts; assigns = []; lines = []; strobes = false; finishes = false }
 
@@ -294,9 +294,9 @@ pub turn_print_stays : (class : ℕ → ℕ) (s f : State) (d : Deed) (m q : ℕ
     → turn_footprint class f q u ≡ turn_footprint class s q u
 turn_print_stays class s f d m q u h off differ =
     let e : Deed = turn_deed m q u in
-    ap (λ ts. turn_print class q u (changes_made f.store u.writes) (woken_by (changes_made f.store u.writes) f.processes) ts) (triggers_stay s f d e h off differ)
-    ∙ ap (λ ws. turn_print class q u (changes_made f.store u.writes) ws (awaited_by s.processes (q ∷ woken_by (changes_made s.store u.writes) s.processes))) (woken_stay s f d e h off)
-    ∙ ap (λ cs. turn_print class q u cs (woken_by (changes_made s.store u.writes) s.processes) (awaited_by s.processes (q ∷ woken_by (changes_made s.store u.writes) s.processes))) (changes_stay s f d e h off)
+    ap (λ ts. turn_print class q u (changes_made f.store u.writes) (woken_by_changes (changes_made f.store u.writes) f.processes) ts) (triggers_stay s f d e h off differ)
+    ∙ ap (λ ws. turn_print class q u (changes_made f.store u.writes) ws (awaited_by_all s.processes (q ∷ woken_by_changes (changes_made s.store u.writes) s.processes))) (woken_stay s f d e h off)
+    ∙ ap (λ cs. turn_print class q u cs (woken_by_changes (changes_made s.store u.writes) s.processes) (awaited_by_all s.processes (q ∷ woken_by_changes (changes_made s.store u.writes) s.processes))) (changes_stay s f d e h off)
 
 unowned : (o : Option (ℕ × Continuation)) → Differ o None
 unowned None = tt
@@ -305,9 +305,9 @@ unowned (Some own) = tt
 pub update_print_stays : (class : ℕ → ℕ) (s f : State) (d : Deed) (m r : ℕ) (v : Vector) → Done s d f → Leaves s d (update_deed m r v) → update_footprint class f r v ≡ update_footprint class s r v
 update_print_stays class s f d m r v h off =
     let e : Deed = update_deed m r v in
-    ap (λ ts. update_print class r v (changes_by f e) (woken_by (changes_by f e) f.processes) ts) (triggers_stay s f d e h off (unowned d.own))
-    ∙ ap (λ ws. update_print class r v (changes_by f e) ws (awaited_by s.processes (woken_by (changes_by s e) s.processes))) (woken_stay s f d e h off)
-    ∙ ap (λ cs. update_print class r v cs (woken_by (changes_by s e) s.processes) (awaited_by s.processes (woken_by (changes_by s e) s.processes))) (changes_stay s f d e h off)
+    ap (λ ts. update_print class r v (changes_by f e) (woken_by_changes (changes_by f e) f.processes) ts) (triggers_stay s f d e h off (unowned d.own))
+    ∙ ap (λ ws. update_print class r v (changes_by f e) ws (awaited_by_all s.processes (woken_by_changes (changes_by s e) s.processes))) (woken_stay s f d e h off)
+    ∙ ap (λ cs. update_print class r v cs (woken_by_changes (changes_by s e) s.processes) (awaited_by_all s.processes (woken_by_changes (changes_by s e) s.processes))) (changes_stay s f d e h off)
 
 -- an effect's changes stay
 values_stay : (s f : State) (d e : Deed) → Done s d f → Leaves s d e → changes_of f.store e.writes ≡ changes_of s.store e.writes
@@ -316,13 +316,13 @@ values_stay s f d e h off = values_made f.store e.writes ∙ ap written_values (
 -- the second step, after the first
 abbrev pub After : (ℕ → ℕ) → Design → State → State → Deed → Entry → Effect → Footprint → Deed → Type 0
 After class design s f d entry y g e =
-    Leaves s d e → Differ d.own e.own → (d.number == e.number) ≡ false → ((r : ℕ) → contains g.uses r ≡ true → contains (changed (changes_by s d)) r ≡ false) → e.number < s.next_event
+    Leaves s d e → Differ d.own e.own → (d.number == e.number) ≡ false → ((r : ℕ) → contains g.uses r ≡ true → contains (changed_registers (changes_by s d)) r ≡ false) → e.number < s.next_event
     → (z : Effect) × Acts class design f entry e z g × HasSameOutput z y
 
 turn_after : (class : ℕ → ℕ) (design : Design) (s f : State) (d : Deed) (m q : ℕ) (u : Turn) (y : Effect) (g : Footprint) → Done s d f → action_in s.active m ≡ Some (Evaluate q) → turn_of design s q ≡ Some u
     → y ≡ turn_effect s m q u → g ≡ turn_footprint class s q u → After class design s f d (Entry.Turn m) y g (turn_deed m q u)
 turn_after class design s f d m q u y g h is found same_y same_g off differ other uses less =
-    let used : (r : ℕ) → contains u.uses r ≡ true → contains (changed (changes_by s d)) r ≡ false = λ r h. uses r (ap (λ x. contains x.uses r) same_g ∙ h) in
+    let used : (r : ℕ) → contains u.uses r ≡ true → contains (changed_registers (changes_by s d)) r ≡ false = λ r h. uses r (ap (λ x. contains x.uses r) same_g ∙ h) in
     let found' : turn_of design f q ≡ Some u = turn_stays design s f d q u h differ used found in
     let print : g ≡ turn_footprint class f q u = same_g ∙ sym (turn_print_stays class s f d m q u h off differ) in
     let output : HasSameOutput (turn_effect f m q u) y = (sym (ap (λ x. x.lines) same_y), values_stay s f d (turn_deed m q u) h off ∙ sym (ap (λ x. x.changes) same_y)) in

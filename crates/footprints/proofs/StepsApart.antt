@@ -13,7 +13,7 @@ use Rattle.orders.specs.Apart.{NotBoth, updates_for}
 use Rattle.orders.proofs.TurnFrame.{contains_right}
 use Rattle.orders.proofs.Commuting.{apart_commute}
 use Rattle.loose.specs.Loose.{of_class, AlikeIn, loose_transition_of_action}
-use Rattle.footprints.specs.Footprints.{Footprint, AreApart, changed, matches_any, awaited_by, process_of, concerned, written, assigned, assigns_for}
+use Rattle.footprints.specs.Footprints.{Footprint, AreApart, changed_registers, matches_any, awaited_by_all, process_of_actor, concerned, written_registers, assigned, assigns_for}
 use Rattle.footprints.specs.FootprintLaws.{ApartIsSymmetric, EndedIsKnown, HasSameOutput, StepsApartCommute, FrameAtTheEnd}
 use Rattle.footprints.proofs.ValueChanges.{or_left}
 use Rattle.footprints.proofs.Waking.{wakes_process, woken_is}
@@ -43,7 +43,7 @@ apart_is_symmetric f g h =
     record {
       owners = λ same. h.owners (sym same);
       processes = λ p. and_swap (contains (concerned f) p) (contains (concerned g) p) (h.processes p);
-      writes = λ r. and_swap (contains (written f) r) (contains (written g) r) (h.writes r);
+      writes = λ r. and_swap (contains (written_registers f) r) (contains (written_registers g) r) (h.writes r);
       uses = h.other_uses;
       other_uses = h.uses;
       awaits = h.other_awaits;
@@ -65,15 +65,15 @@ outside_if xs ys p false is h = refl
 
 not_woken : (class : ℕ → ℕ) (s : State) (e : Deed) (y : Effect) (g : Footprint) (p : ℕ) → Matches class s e y g → contains (concerned g) p ≡ false → wakes_process (changes_by s e) s.processes p ≡ false
 not_woken class s e y g p m out =
-    sym (ap (λ ws. contains ws p) m.woken ∙ woken_is (changes_by s e) s.processes p) ∙ outside_if (process_of g.owner) g.woken p (contains g.woken p) refl out
+    sym (ap (λ ws. contains ws p) m.woken ∙ woken_is (changes_by s e) s.processes p) ∙ outside_if (process_of_actor g.owner) g.woken p (contains g.woken p) refl out
 
 woken_in : (class : ℕ → ℕ) (s : State) (d : Deed) (x : Effect) (f : Footprint) (p : ℕ) → Matches class s d x f → wakes_process (changes_by s d) s.processes p ≡ true → contains (concerned f) p ≡ true
 woken_in class s d x f p m is =
-    contains_right (process_of f.owner) f.woken p (ap (λ ws. contains ws p) m.woken ∙ woken_is (changes_by s d) s.processes p ∙ is)
+    contains_right (process_of_actor f.owner) f.woken p (ap (λ ws. contains ws p) m.woken ∙ woken_is (changes_by s d) s.processes p ∙ is)
 
 own_in : (f : Footprint) (own : ℕ × Continuation) → OwnIs f (Some own) → contains (concerned f) own.0 ≡ true
 own_in f own is =
-    ap (λ o. contains (process_of o ++ f.woken) own.0) is.0 ∙ or_left (own.0 == own.0) (contains f.woken own.0) (eq-eqb own.0 own.0 refl)
+    ap (λ o. contains (process_of_actor o ++ f.woken) own.0) is.0 ∙ or_left (own.0 == own.0) (contains f.woken own.0) (eq-eqb own.0 own.0 refl)
 
 pub ended_is_known : EndedIsKnown
 ended_is_known class design s a b f g x y step_a step_b apart =
@@ -81,7 +81,7 @@ ended_is_known class design s a b f g x y step_a step_b apart =
     let (going', (e, acts_e)) = step_acts class design s b y g step_b in
     let m : Matches class s d x f = acts_match class design s a d x f acts_d in
     let m' : Matches class s e y g = acts_match class design s b e y g acts_e in
-    ap (λ ts. matches_any ts g.changes) m.ended ∙ ap (matches_any (awaited_by s.processes (concerned f))) m'.changes
+    ap (λ ts. matches_any ts g.changes) m.ended ∙ ap (matches_any (awaited_by_all s.processes (concerned f))) m'.changes
     ∙ none_awaited s.processes (concerned f) (changes_by s e)
     (λ p is. not_woken class s e y g p m' (and_left (contains (concerned f) p) (contains (concerned g) p) is (apart p)))
 
@@ -101,7 +101,7 @@ is_of_deed class s e y g m = record { writes = m.writes; changes = m.changes; ow
 -- a process that one of two deeds concerns isn't woken by the other
 unconcerned : (class : ℕ → ℕ) (s : State) (d e : Deed) (x : Effect) (f g : Footprint) (p : ℕ) → Matches class s d x f → IsOfDeed s e g → AreApart f g → contains (concerned f) p ≡ true → wakes_process (changes_by s e) s.processes p ≡ false
 unconcerned class s d e x f g p m i apart is =
-    let before : matches_any (awaited_by s.processes (concerned f)) (changes_by s e) ≡ false =
+    let before : matches_any (awaited_by_all s.processes (concerned f)) (changes_by s e) ≡ false =
     sym (ap (λ ts. matches_any ts (changes_by s e)) m.ended) ∙ ap (matches_any f.ended) (sym i.changes) ∙ apart.ended in
     all_stay_asleep s.processes (concerned f) (changes_by s e) p before is
 
@@ -121,8 +121,8 @@ stays_of class s d x f g (Some own) is m apart =
 pub writes_apart : (class : ℕ → ℕ) (s : State) (d : Deed) (x : Effect) (f g : Footprint) (ws : List (ℕ × Vector)) → Matches class s d x f → g.writes ≡ ws → AreApart f g
     → (r : ℕ) → contains (registers_of_writes ws) r ≡ true → contains (registers_of_writes d.writes) r ≡ false
 writes_apart class s d x f g ws m same apart r is =
-    let in_g : contains (written g) r ≡ true = ap (λ vs. contains (registers_of_writes vs) r) same ∙ is in
-    sym (ap (λ vs. contains (registers_of_writes vs) r) m.writes) ∙ and_right (contains (written f) r) (contains (written g) r) in_g (apart.writes r)
+    let in_g : contains (written_registers g) r ≡ true = ap (λ vs. contains (registers_of_writes vs) r) same ∙ is in
+    sym (ap (λ vs. contains (registers_of_writes vs) r) m.writes) ∙ and_right (contains (written_registers f) r) (contains (written_registers g) r) in_g (apart.writes r)
 
 pub leaves : (class : ℕ → ℕ) (s : State) (d e : Deed) (x : Effect) (f g : Footprint) → Matches class s d x f → IsOfDeed s e g → AreApart f g → Leaves s d e
 leaves class s d e x f g m i apart =
@@ -182,9 +182,9 @@ strobes_apart class s d e x y f g m m' apart =
     ap (λ b. b && has_any e.strobes) (sym m.strobes) ∙ ap (λ b. f.strobes && b) (sym m'.strobes) ∙ apart.strobes
 
 -- the first of two deeds changes no register that the second uses
-pub uses_apart : (class : ℕ → ℕ) (s : State) (d : Deed) (x : Effect) (f g : Footprint) → Matches class s d x f → AreApart f g → (r : ℕ) → contains g.uses r ≡ true → contains (changed (changes_by s d)) r ≡ false
+pub uses_apart : (class : ℕ → ℕ) (s : State) (d : Deed) (x : Effect) (f g : Footprint) → Matches class s d x f → AreApart f g → (r : ℕ) → contains g.uses r ≡ true → contains (changed_registers (changes_by s d)) r ≡ false
 uses_apart class s d x f g m apart r is =
-    ap (λ cs. contains (changed cs) r) (sym m.changes) ∙ and_left (contains g.uses r) (contains (changed f.changes) r) is (apart.other_uses r)
+    ap (λ cs. contains (changed_registers cs) r) (sym m.changes) ∙ and_left (contains g.uses r) (contains (changed_registers f.changes) r) is (apart.other_uses r)
 
 -- the second step, after the first
 second_step : (class : ℕ → ℕ) (design : Design) (s : State) (entry : Entry) (d e : Deed) (x y : Effect) (f g : Footprint) → IsInOrder s → Done s d x.state → Matches class s d x f → Matches class s e y g → AreApart f g

@@ -17,7 +17,7 @@ use Rattle.loose.specs.declared.transition.LooseTransition.{LooseTransition}
 use Rattle.loose.specs.declared.transition.LooseTransition.TheVariants.{Process, FirstOf, Change}
 use Rattle.loose.specs.Loose.{of_class, updates_of_class}
 use Rattle.loose.proofs.ClassLists.{HasFirstOf, find_first, class_taken}
-use Rattle.footprints.specs.Footprints.{Footprint, turn_footprint, update_footprint, changed, AreApart, process_of, concerned}
+use Rattle.footprints.specs.Footprints.{Footprint, turn_footprint, update_footprint, changed_registers, AreApart, process_of_actor, concerned}
 use Rattle.footprints.specs.FootprintLaws.{IsStepWith}
 use Rattle.footprints.specs.Moves.{OrderedState, IsWaiting, IsMove, GivesTo, LooseStepsHaveSwaps}
 use Rattle.footprints.proofs.Waking.{evaluations_made, made_updates}
@@ -141,7 +141,7 @@ turn_first class design s d x f g m q u going done match apart is found same =
     let of : IsOfDeed s e g = record { writes = writes; changes = ap (λ h. h.changes) same ∙ kept; own = (ap (λ h. h.owner) same, ap (λ h. h.awaits) same) } in
     let off : Leaves s d e = leaves class s d e x f g match of apart in
     let differ : Differ d.own e.own = differ_of f g d.own e.own match.own of.own apart in
-    let used : (r : ℕ) → contains u.uses r ≡ true → contains (changed (changes_by s d)) r ≡ false = λ r h. uses_apart class s d x f g match apart r (ap (λ h. contains h.uses r) same ∙ h) in
+    let used : (r : ℕ) → contains u.uses r ≡ true → contains (changed_registers (changes_by s d)) r ≡ false = λ r h. uses_apart class s d x f g match apart r (ap (λ h. contains h.uses r) same ∙ h) in
     let acts : Acts class design s (Entry.Turn m) e (turn_effect s m q u) g =
     (q, u, is, turn_was design s x.state d q u done differ used found, refl, refl, same ∙ turn_print_stays class s x.state d m q u done off differ) in
     (Entry.Turn m, turn_effect s m q u, acts_step class design s (Entry.Turn m) e (turn_effect s m q u) g going acts)
@@ -188,8 +188,8 @@ before class design s m n a b f g (entry, x, step, owner, leads) (later, y, step
 gives_one : (f g : Footprint) (b : LooseTransition) → AreApart f g → GivesTo f b → GivesTo g b → ⊥
 gives_one f g b apart (p, is, woken) (q, is', woken') =
     let one : q ≡ p = ap number_in (sym is' ∙ is) in
-    let here : contains (concerned f) p ≡ true = contains_right (process_of f.owner) f.woken p woken in
-    let there : contains (concerned g) p ≡ true = contains_right (process_of g.owner) g.woken p (ap (contains g.woken) (sym one) ∙ woken') in
+    let here : contains (concerned f) p ≡ true = contains_right (process_of_actor f.owner) f.woken p woken in
+    let there : contains (concerned g) p ≡ true = contains_right (process_of_actor g.owner) g.woken p (ap (contains g.woken) (sym one) ∙ woken') in
     true≢false (sym (ap (λ c. c && contains (concerned g) p) here ∙ there) ∙ apart.processes p)
 
 pub loose_steps_have_swaps : LooseStepsHaveSwaps

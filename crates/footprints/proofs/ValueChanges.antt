@@ -10,7 +10,7 @@ use Rattle.model.specs.Runs.{changes_of}
 use Rattle.orders.specs.Apart.{AgreeOn, given, all_given}
 use Rattle.orders.proofs.TurnFrame.{value_other}
 use Rattle.orders.proofs.Stores.{length_given, given_both}
-use Rattle.footprints.specs.Footprints.{ValueChange, change_made, changes_made, changed}
+use Rattle.footprints.specs.Footprints.{RegisterChange, change_made, changes_made, changed_registers}
 
 pub or_left : (a b : Bool) → a ≡ true → (a || b) ≡ true
 or_left true b h = refl
@@ -35,11 +35,11 @@ same_changes a b (w ∷ ws) len h =
     ap (λ v. change_made v w ++ changes_made (given a w) ws) own ∙ ap (λ cs. change_made (value_of b w.0) w ++ cs) later
 
 -- the changes without the values before them
-abbrev pub written_values : List ValueChange → List (ℕ × Vector)
-written_values cs = map (λ (c : ValueChange). (c.register, c.after)) cs
+abbrev pub written_values : List RegisterChange → List (ℕ × Vector)
+written_values cs = map (λ (c : RegisterChange). (c.register, c.after)) cs
 
 -- the change of a write, where it is known whether it makes one
-abbrev pub made_if : Bool → Vector → ℕ × Vector → List ValueChange
+abbrev pub made_if : Bool → Vector → ℕ × Vector → List RegisterChange
 made_if b old w = if b then [] else record { register = w.0; before = old; after = w.1 } ∷ []
 
 values_if : (store : Store) (w : ℕ × Vector) (ws : List (ℕ × Vector)) (b : Bool) → changes_of store ws ≡ written_values (changes_made store ws)
@@ -55,18 +55,18 @@ values_made store (w ∷ ws) =
     values_if store w ws (same_vector (value_of store w.0) w.1) (values_made store ws) (values_made (slice_set store w.0 w.1) ws)
 
 unchanged_if : (a : Store) (w : ℕ × Vector) (ws : List (ℕ × Vector)) (r : ℕ) (b : Bool)
-    → (contains (changed (changes_made a ws)) r ≡ false → value_of (all_given a ws) r ≡ value_of a r)
-    → (contains (changed (changes_made (slice_set a w.0 w.1) ws)) r ≡ false → value_of (all_given (slice_set a w.0 w.1) ws) r ≡ value_of (slice_set a w.0 w.1) r)
-    → contains (changed (made_if b (value_of a w.0) w ++ changes_made (if b then a else slice_set a w.0 w.1) ws)) r ≡ false
+    → (contains (changed_registers (changes_made a ws)) r ≡ false → value_of (all_given a ws) r ≡ value_of a r)
+    → (contains (changed_registers (changes_made (slice_set a w.0 w.1) ws)) r ≡ false → value_of (all_given (slice_set a w.0 w.1) ws) r ≡ value_of (slice_set a w.0 w.1) r)
+    → contains (changed_registers (made_if b (value_of a w.0) w ++ changes_made (if b then a else slice_set a w.0 w.1) ws)) r ≡ false
     → value_of (all_given (if b then a else slice_set a w.0 w.1) ws) r ≡ value_of a r
 unchanged_if a w ws r true g h none = g none
 unchanged_if a w ws r false g h none =
-    let (not_it, others) = neither (w.0 == r) (contains (changed (changes_made (slice_set a w.0 w.1) ws)) r) none in
+    let (not_it, others) = neither (w.0 == r) (contains (changed_registers (changes_made (slice_set a w.0 w.1) ws)) r) none in
     let other : (r == w.0) ≡ false = grind (arith, eqb_tells r w.0, eqb_tells w.0 r, not_it) in
     h others ∙ value_other a w.0 r w.1 other
 
 -- a register that no change is of keeps its value
-pub unchanged : (a : Store) (ws : List (ℕ × Vector)) (r : ℕ) → contains (changed (changes_made a ws)) r ≡ false → value_of (all_given a ws) r ≡ value_of a r
+pub unchanged : (a : Store) (ws : List (ℕ × Vector)) (r : ℕ) → contains (changed_registers (changes_made a ws)) r ≡ false → value_of (all_given a ws) r ≡ value_of a r
 unchanged a [] r none = refl
 unchanged a (w ∷ ws) r none =
     unchanged_if a w ws r (same_vector (value_of a w.0) w.1) (unchanged a ws r) (unchanged (slice_set a w.0 w.1) ws r) none

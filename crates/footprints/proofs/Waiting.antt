@@ -13,7 +13,7 @@ use Rattle.model.specs.Laws.{times_in, evaluations_in}
 use Rattle.orders.specs.Alike.{with_update, updates_in}
 use Rattle.orders.proofs.EventLists.{evaluations-append, evaluations-taken, own_evaluation, find_evaluation, rises-numbered}
 use Rattle.orders.proofs.Commuting.{still_there}
-use Rattle.footprints.specs.Footprints.{ValueChange, Footprint}
+use Rattle.footprints.specs.Footprints.{RegisterChange, Footprint}
 use Rattle.footprints.specs.FootprintLaws.{WaitingStays, WaitingIsGiven, WokenWaits}
 use Rattle.footprints.proofs.Waking.{wakes_process, one_where, evaluations_made, made_evaluations, made_updates, woken_is}
 use Rattle.footprints.proofs.Deeds.{Deed, Done, changes_by}
@@ -96,7 +96,7 @@ no_update : (es : List Event) (m r : ℕ) (v : Vector) → action_in es m ≡ So
 no_update [] m r v is none = cc
 no_update (e ∷ es) m r v is none = no_update_first e.0 e.1 es m r v (e.0 == m) is none (no_update es m r v)
 
-new_wakes : (cs : List ValueChange) (ps : List Continuation) (k m : ℕ) (a : Action) → action_in (enumerate_from k (evaluations_made cs ps)) m ≡ Some a → (p : ℕ) × (a ≡ Evaluate p) × (wakes_process cs ps p ≡ true)
+new_wakes : (cs : List RegisterChange) (ps : List Continuation) (k m : ℕ) (a : Action) → action_in (enumerate_from k (evaluations_made cs ps)) m ≡ Some a → (p : ℕ) × (a ≡ Evaluate p) × (wakes_process cs ps p ≡ true)
 new_wakes cs ps k m (Evaluate p) is =
     let made : List Action = evaluations_made cs ps in
     let new : List Event = enumerate_from k made in

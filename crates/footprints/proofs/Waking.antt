@@ -14,7 +14,7 @@ use Rattle.orders.specs.Apart.{all_given}
 use Rattle.orders.proofs.EventLists.{updates-append, evaluations-append}
 use Rattle.orders.proofs.Stores.{append-none}
 use Rattle.orders.proofs.AlikeSteps.{continuation_of}
-use Rattle.footprints.specs.Footprints.{ValueChange, changes_made, matches_any, woken_by}
+use Rattle.footprints.specs.Footprints.{RegisterChange, changes_made, matches_any, woken_by_changes}
 use Rattle.footprints.proofs.ValueChanges.{made_if}
 
 -- no continuation
@@ -26,33 +26,33 @@ abbrev pub awake : Bool → Continuation → Continuation
 awake b x = if b then record x { triggers = [] } else x
 
 -- a process once changes have been made
-abbrev pub woken_from : List ValueChange → Continuation → Continuation
+abbrev pub woken_from : List RegisterChange → Continuation → Continuation
 woken_from cs x = awake (matches_any x.triggers cs) x
 
 -- whether changes wake the process with a number
-abbrev pub wakes_process : List ValueChange → List Continuation → ℕ → Bool
+abbrev pub wakes_process : List RegisterChange → List Continuation → ℕ → Bool
 wakes_process cs ps p = matches_any (continuation_of ps p).triggers cs
 
 abbrev pub one_where : Bool → ℕ
 one_where b = if b then 1 else 0
 
 -- the evaluations of those that changes wake, in the order in which they come about
-abbrev pub evaluations_made : List ValueChange → List Continuation → List Action
+abbrev pub evaluations_made : List RegisterChange → List Continuation → List Action
 evaluations_made [] ps = []
 evaluations_made (c ∷ cs) ps = woken c.register c.before c.after ps ++ evaluations_made cs (map (after_wake c.register c.before c.after) ps)
 
 -- a process that doesn't wait isn't woken
-pub asleep : (cs : List ValueChange) → matches_any [] cs ≡ false
+pub asleep : (cs : List RegisterChange) → matches_any [] cs ≡ false
 asleep [] = refl
 asleep (c ∷ cs) = asleep cs
 
 -- processes
 
-woken_twice : (cs : List ValueChange) (x : Continuation) (b : Bool) → woken_from cs (awake b x) ≡ awake (b || matches_any x.triggers cs) x
+woken_twice : (cs : List RegisterChange) (x : Continuation) (b : Bool) → woken_from cs (awake b x) ≡ awake (b || matches_any x.triggers cs) x
 woken_twice cs x true = rw (asleep cs) refl
 woken_twice cs x false = refl
 
-all_twice : (c : ValueChange) (cs : List ValueChange) (ps : List Continuation)
+all_twice : (c : RegisterChange) (cs : List RegisterChange) (ps : List Continuation)
     → map (woken_from cs) (map (after_wake c.register c.before c.after) ps) ≡ map (woken_from (c ∷ cs)) ps
 all_twice c cs [] = refl
 all_twice c cs (x ∷ ps) =
@@ -66,7 +66,7 @@ all_asleep (x ∷ ps) = ap (λ ys. x ∷ ys) (all_asleep ps)
 -- states
 
 -- what changes make of a state, where they lead to this store
-abbrev pub after_changes : State → List ValueChange → Store → State
+abbrev pub after_changes : State → List RegisterChange → Store → State
 after_changes s cs store =
     record s {
       store = store;
@@ -97,10 +97,10 @@ same_state : (s : State) (store : Store) (ps qs : List Continuation) (xs ys : Li
     → ◌≡◌ {A = State} (record s { store = store; processes = ps; active = xs; next_event = n }) (record s { store = store; processes = qs; active = ys; next_event = m })
 same_state s store ps qs xs ys n m g h i = rw (g, h, i) refl
 
-changed_more : (s : State) (w : ℕ × Vector) (cs : List ValueChange) (store : Store)
+changed_more : (s : State) (w : ℕ × Vector) (cs : List RegisterChange) (store : Store)
     → after_changes (with_value w.0 w.1 s) cs store ≡ after_changes s (record { register = w.0; before = value_of s.store w.0; after = w.1 } ∷ cs) store
 changed_more s w cs store =
-    let c : ValueChange = record { register = w.0; before = value_of s.store w.0; after = w.1 } in
+    let c : RegisterChange = record { register = w.0; before = value_of s.store w.0; after = w.1 } in
     let first : List Action = woken c.register c.before c.after s.processes in
     let more : List Action = evaluations_made cs (map (after_wake c.register c.before c.after) s.processes) in
     same_state s store (map (woken_from cs) (map (after_wake c.register c.before c.after) s.processes)) (map (woken_from (c ∷ cs)) s.processes)
@@ -172,12 +172,12 @@ after_at r old new (x ∷ ps) (suc p) = after_at r old new ps p
 
 -- the evaluations of all
 
-once : (cs : List ValueChange) (x : Continuation) (b : Bool) → one_where b + one_where (matches_any (awake b x).triggers cs) ≡ one_where (b || matches_any x.triggers cs)
+once : (cs : List RegisterChange) (x : Continuation) (b : Bool) → one_where b + one_where (matches_any (awake b x).triggers cs) ≡ one_where (b || matches_any x.triggers cs)
 once cs x true = rw (asleep cs) refl
 once cs x false = omega arith
 
 -- each process that changes wake has one evaluation
-pub made_evaluations : (p n : ℕ) (cs : List ValueChange) (ps : List Continuation) → evaluations_in p (enumerate_from n (evaluations_made cs ps)) ≡ one_where (wakes_process cs ps p)
+pub made_evaluations : (p n : ℕ) (cs : List RegisterChange) (ps : List Continuation) → evaluations_in p (enumerate_from n (evaluations_made cs ps)) ≡ one_where (wakes_process cs ps p)
 made_evaluations p n [] ps = refl
 made_evaluations p n (c ∷ cs) ps =
     let first : List Action = woken c.register c.before c.after ps in
@@ -191,7 +191,7 @@ made_evaluations p n (c ∷ cs) ps =
     ∙ ap (λ k. k + evaluations_in p (enumerate_from (n + length first) more)) here ∙ ap (λ k. one_where woke + k) later ∙ once cs (continuation_of ps p) woke
 
 -- and no update is made
-pub made_updates : (n : ℕ) (cs : List ValueChange) (ps : List Continuation) → updates_in (enumerate_from n (evaluations_made cs ps)) ≡ []
+pub made_updates : (n : ℕ) (cs : List RegisterChange) (ps : List Continuation) → updates_in (enumerate_from n (evaluations_made cs ps)) ≡ []
 made_updates n [] ps = refl
 made_updates n (c ∷ cs) ps =
     let first : List Action = woken c.register c.before c.after ps in
@@ -207,7 +207,7 @@ abbrev numbers : List (ℕ × Continuation) → List ℕ
 numbers es = map (λ e. e.0) es
 
 -- those from a number on
-abbrev woken_on : List ValueChange → ℕ → List Continuation → List ℕ
+abbrev woken_on : List RegisterChange → ℕ → List Continuation → List ℕ
 woken_on cs k ps = numbers (filter (λ e. matches_any e.1.triggers cs) (enumerate_from k ps))
 
 not_first : (k p : ℕ) (x : Continuation) (es : List (ℕ × Continuation)) (b c : Bool) → (k == p) ≡ false → contains (numbers es) p ≡ c → contains (numbers (cond b ((k, x) ∷ es) es)) p ≡ c
@@ -218,13 +218,13 @@ is_first : (k p : ℕ) (x : Continuation) (es : List (ℕ × Continuation)) (b :
 is_first k p x es true same rest = rw same refl
 is_first k p x es false same rest = rest
 
-not_before : (cs : List ValueChange) (p k : ℕ) (ps : List Continuation) → p < k → contains (woken_on cs k ps) p ≡ false
+not_before : (cs : List RegisterChange) (p k : ℕ) (ps : List Continuation) → p < k → contains (woken_on cs k ps) p ≡ false
 not_before cs p k [] h = refl
 not_before cs p k (x ∷ ps) h =
     let other : (k == p) ≡ false = grind (arith, eqb_tells k p, h) in
     not_first k p x (filter (λ e. matches_any e.1.triggers cs) (enumerate_from (k + 1) ps)) (matches_any x.triggers cs) false other (not_before cs p (k + 1) ps (omega (arith, h)))
 
-woken_there : (cs : List ValueChange) (p k j : ℕ) (ps : List Continuation) → k + j ≡ p → contains (woken_on cs k ps) p ≡ wakes_process cs ps j
+woken_there : (cs : List RegisterChange) (p k j : ℕ) (ps : List Continuation) → k + j ≡ p → contains (woken_on cs k ps) p ≡ wakes_process cs ps j
 woken_there cs p k j [] at = sym (asleep cs)
 woken_there cs p k zero (x ∷ ps) at =
     let same : k ≡ p = omega (arith, at) in
@@ -234,7 +234,7 @@ woken_there cs p k (suc j) (x ∷ ps) at =
     not_first k p x (filter (λ e. matches_any e.1.triggers cs) (enumerate_from (k + 1) ps)) (matches_any x.triggers cs) (wakes_process cs ps j) other (woken_there cs p (k + 1) j ps (omega (arith, at)))
 
 -- a process is among them exactly where they wake it
-pub woken_is : (cs : List ValueChange) (ps : List Continuation) (p : ℕ) → contains (woken_by cs ps) p ≡ wakes_process cs ps p
+pub woken_is : (cs : List RegisterChange) (ps : List Continuation) (p : ℕ) → contains (woken_by_changes cs ps) p ≡ wakes_process cs ps p
 woken_is cs ps p = woken_there cs p 0 p ps (omega arith)
 
 both_first : (k : ℕ) (x y : Continuation) (es fs : List (ℕ × Continuation)) (b c : Bool) → b ≡ c → numbers es ≡ numbers fs → numbers (cond b ((k, x) ∷ es) es) ≡ numbers (cond c ((k, y) ∷ fs) fs)
@@ -243,7 +243,7 @@ both_first k x y es fs false false same h = h
 both_first k x y es fs true false same h = cc
 both_first k x y es fs false true same h = cc
 
-same_on : (cs : List ValueChange) (k : ℕ) (ps qs : List Continuation) → length ps ≡ length qs → ((p : ℕ) → wakes_process cs ps p ≡ wakes_process cs qs p) → woken_on cs k ps ≡ woken_on cs k qs
+same_on : (cs : List RegisterChange) (k : ℕ) (ps qs : List Continuation) → length ps ≡ length qs → ((p : ℕ) → wakes_process cs ps p ≡ wakes_process cs qs p) → woken_on cs k ps ≡ woken_on cs k qs
 same_on cs k [] [] len h = refl
 same_on cs k [] (y ∷ qs) len h = cc
 same_on cs k (x ∷ ps) [] len h = cc
@@ -252,5 +252,5 @@ same_on cs k (x ∷ ps) (y ∷ qs) len h =
     (matches_any x.triggers cs) (matches_any y.triggers cs) (h 0) (same_on cs (k + 1) ps qs (omega (arith, len)) (λ p. h (suc p)))
 
 -- changes wake the same of processes that are as many, and of which each is woken in both or in neither
-pub same_woken : (cs : List ValueChange) (ps qs : List Continuation) → length ps ≡ length qs → ((p : ℕ) → wakes_process cs ps p ≡ wakes_process cs qs p) → woken_by cs ps ≡ woken_by cs qs
+pub same_woken : (cs : List RegisterChange) (ps qs : List Continuation) → length ps ≡ length qs → ((p : ℕ) → wakes_process cs ps p ≡ wakes_process cs qs p) → woken_by_changes cs ps ≡ woken_by_changes cs qs
 same_woken cs ps qs len h = same_on cs 0 ps qs len h

@@ -8,7 +8,7 @@ use Rattle.model.specs.Runs.{Effect, action_in, taken}
 use Rattle.model.specs.Laws.{times_in}
 use Rattle.orders.specs.Alike.{IsInOrder}
 use Rattle.loose.specs.Loose.{AlikeIn, loose_step, loose_transition_of}
-use Rattle.footprints.specs.Footprints.{ValueChange, Footprint, matches_any, footprint, Disjoint, concerned, AreApart}
+use Rattle.footprints.specs.Footprints.{RegisterChange, Footprint, matches_any, footprint, Disjoint, concerned, AreApart}
 
 -- a step that is apart from another has that one apart from it
 abbrev pub ApartIsSymmetric : Type 0
@@ -23,7 +23,7 @@ abbrev pub FootprintTells : Type 0
 FootprintTells =
     (class : ℕ → ℕ) (design : Design) (s : State) (d : Entry) (f : Footprint) (x : Effect) → IsInOrder s → IsStepWith class design s d f x
     → (loose_transition_of class s d ≡ Some f.owner) × (x.lines ≡ f.lines)
-    × (x.changes ≡ map (λ (c : ValueChange). (c.register, c.after)) f.changes) × (x.state.finished ≡ f.finishes)
+    × (x.changes ≡ map (λ (c : RegisterChange). (c.register, c.after)) f.changes) × (x.state.finished ≡ f.finishes)
 
 -- Where two steps from one state concern different processes, no change of the second matches a trigger for which a process that the first
 -- concerns waits before it.

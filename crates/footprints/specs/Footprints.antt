@@ -17,37 +17,37 @@ use Rattle.loose.specs.declared.transition.LooseTransition.{LooseTransition}
 use Rattle.loose.specs.declared.transition.LooseTransition.TheVariants.{Process, FirstOf}
 
 -- a change of a register, with its value before and after
-pub record ValueChange : Type 0 where
+pub record RegisterChange : Type 0 where
   pub register : ℕ
   pub before : Vector
   pub after : Vector
 
 -- the change of a register's value that a write makes, if it makes one
-abbrev pub change_made : Vector → ℕ × Vector → List ValueChange
+abbrev pub change_made : Vector → ℕ × Vector → List RegisterChange
 change_made old w = if same_vector old w.1 then [] else record { register = w.0; before = old; after = w.1 } ∷ []
 
 -- the changes that writes make, each by the store after the writes before it
-abbrev pub changes_made : Store → List (ℕ × Vector) → List ValueChange
+abbrev pub changes_made : Store → List (ℕ × Vector) → List RegisterChange
 changes_made store [] = []
 changes_made store (w ∷ ws) = change_made (value_of store w.0) w ++ changes_made (given store w) ws
 
 -- the registers of changes
-abbrev pub changed : List ValueChange → List ℕ
-changed changes = map (λ c. c.register) changes
+abbrev pub changed_registers : List RegisterChange → List ℕ
+changed_registers changes = map (λ c. c.register) changes
 
 -- whether triggers match one of these changes
-abbrev pub matches_any : List Trigger → List ValueChange → Bool
+abbrev pub matches_any : List Trigger → List RegisterChange → Bool
 matches_any triggers changes = list_any (λ c. wakes triggers c.register c.before c.after) changes
 
 -- the processes that changes wake, in the order of their numbers
-abbrev pub woken_by : List ValueChange → List Continuation → List ℕ
-woken_by changes processes = map (λ e. e.0) (filter (λ e. matches_any e.1.triggers changes) (enumerate_from 0 processes))
+abbrev pub woken_by_changes : List RegisterChange → List Continuation → List ℕ
+woken_by_changes changes processes = map (λ e. e.0) (filter (λ e. matches_any e.1.triggers changes) (enumerate_from 0 processes))
 
 -- the triggers that the processes with these numbers wait for
-abbrev pub awaited_by : List Continuation → List ℕ → List Trigger
-awaited_by processes [] = []
-awaited_by processes (p ∷ ps) =
-    (slice_index_or processes p (record { remainder = []; triggers = [] })).triggers ++ awaited_by processes ps
+abbrev pub awaited_by_all : List Continuation → List ℕ → List Trigger
+awaited_by_all processes [] = []
+awaited_by_all processes (p ∷ ps) =
+    (slice_index_or processes p (record { remainder = []; triggers = [] })).triggers ++ awaited_by_all processes ps
 
 -- the class and the time of each update that nonblocking assignments make
 abbrev pub assigned : (ℕ → ℕ) → List NonblockingAssignment → List (ℕ × ℕ)
@@ -61,7 +61,7 @@ pub record Footprint : Type 0 where
   pub owner : LooseTransition
   pub uses : List ℕ
   pub writes : List (ℕ × Vector)
-  pub changes : List ValueChange
+  pub changes : List RegisterChange
   pub awaits : List Trigger
   pub woken : List ℕ
   pub ended : List Trigger
@@ -79,8 +79,8 @@ turn_footprint class s p turn =
       writes = turn.writes;
       changes = changes_made s.store turn.writes;
       awaits = triggers_of turn.wait;
-      woken = woken_by (changes_made s.store turn.writes) s.processes;
-      ended = awaited_by s.processes (p ∷ woken_by (changes_made s.store turn.writes) s.processes);
+      woken = woken_by_changes (changes_made s.store turn.writes) s.processes;
+      ended = awaited_by_all s.processes (p ∷ woken_by_changes (changes_made s.store turn.writes) s.processes);
       assigns = assigned class turn.nbas;
       lines = turn.lines;
       strobes = has_any turn.strobes;
@@ -96,8 +96,8 @@ update_footprint class s r v =
       writes = (r, v) ∷ [];
       changes = changes_made s.store ((r, v) ∷ []);
       awaits = [];
-      woken = woken_by (changes_made s.store ((r, v) ∷ [])) s.processes;
-      ended = awaited_by s.processes (woken_by (changes_made s.store ((r, v) ∷ [])) s.processes);
+      woken = woken_by_changes (changes_made s.store ((r, v) ∷ [])) s.processes;
+      ended = awaited_by_all s.processes (woken_by_changes (changes_made s.store ((r, v) ∷ [])) s.processes);
       assigns = [];
       lines = [];
       strobes = false;
@@ -121,17 +121,17 @@ abbrev pub Disjoint : List ℕ → List ℕ → Type 0
 Disjoint xs ys = (n : ℕ) → (contains xs n && contains ys n) ≡ false
 
 -- the process of an actor, if it is one
-abbrev pub process_of : LooseTransition → List ℕ
-process_of (Process p) = p ∷ []
-process_of _ = []
+abbrev pub process_of_actor : LooseTransition → List ℕ
+process_of_actor (Process p) = p ∷ []
+process_of_actor _ = []
 
 -- the processes that a step concerns: its own, and those that it wakes
 abbrev pub concerned : Footprint → List ℕ
-concerned f = process_of f.owner ++ f.woken
+concerned f = process_of_actor f.owner ++ f.woken
 
 -- the registers that a step writes
-abbrev pub written : Footprint → List ℕ
-written f = map (λ w. w.0) f.writes
+abbrev pub written_registers : Footprint → List ℕ
+written_registers f = map (λ w. w.0) f.writes
 
 -- whether a step makes an update of a class for a time
 abbrev pub assigns_for : Footprint → ℕ → ℕ → Bool
@@ -149,9 +149,9 @@ AreApart f g =
     record {
       owners : f.owner ≢ g.owner;
       processes : Disjoint (concerned f) (concerned g);
-      writes : Disjoint (written f) (written g);
-      uses : Disjoint f.uses (changed g.changes);
-      other_uses : Disjoint g.uses (changed f.changes);
+      writes : Disjoint (written_registers f) (written_registers g);
+      uses : Disjoint f.uses (changed_registers g.changes);
+      other_uses : Disjoint g.uses (changed_registers f.changes);
       awaits : matches_any f.awaits g.changes ≡ false;
       other_awaits : matches_any g.awaits f.changes ≡ false;
       ended : matches_any f.ended g.changes ≡ false;

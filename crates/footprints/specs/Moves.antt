@@ -10,7 +10,7 @@ use Rattle.orders.specs.Alike.{IsInOrder}
 use Rattle.loose.specs.declared.transition.LooseTransition.{LooseTransition}
 use Rattle.loose.specs.declared.transition.LooseTransition.TheVariants.{Process}
 use Rattle.loose.specs.Loose.{AlikeIn, loose_run_from, loose_transition_of_action}
-use Rattle.traces.specs.Traces.{Moves, AreMoves, Runs, printed}
+use Rattle.traces.specs.Traces.{Moves, AreMoves, IsRunOfMoves, printed_by_steps}
 use Rattle.traces.specs.Certificates.{HaveSwaps}
 use Rattle.footprints.specs.Footprints.{Footprint, AreApart}
 use Rattle.footprints.specs.FootprintLaws.{IsStepWith}
@@ -73,14 +73,14 @@ TakeEvents (_ ∷ entries) = ⊥
 abbrev pub MovesAreRuns : Type 0
 MovesAreRuns =
     (class : ℕ → ℕ) (design : Design) (e : Effect) (order : IsInOrder e.state) (w : List (LooseTransition × Footprint)) (t : OrderedState)
-    → Runs (loose_moves class design) (e.state, order) w t
+    → IsRunOfMoves (loose_moves class design) (e.state, order) w t
     → (entries : List Entry) × (g : Effect) × TakeEvents entries × (loose_run_from class design e entries ≡ Some g) × (g.state ≡ t.0)
-    × (g.lines ≡ e.lines ++ printed (λ f. f.lines) w)
+    × (g.lines ≡ e.lines ++ printed_by_steps (λ f. f.lines) w)
 
 -- a loose run of entries that take events is a run of moves, and prints the same
 abbrev pub RunsAreMoves : Type 0
 RunsAreMoves =
     (class : ℕ → ℕ) (design : Design) (e g : Effect) (order : IsInOrder e.state) (entries : List Entry) → TakeEvents entries
     → loose_run_from class design e entries ≡ Some g
-    → (w : List (LooseTransition × Footprint)) × (t : OrderedState) × Runs (loose_moves class design) (e.state, order) w t
-    × (t.0 ≡ g.state) × (g.lines ≡ e.lines ++ printed (λ f. f.lines) w)
+    → (w : List (LooseTransition × Footprint)) × (t : OrderedState) × IsRunOfMoves (loose_moves class design) (e.state, order) w t
+    × (t.0 ≡ g.state) × (g.lines ≡ e.lines ++ printed_by_steps (λ f. f.lines) w)

@@ -20,16 +20,17 @@ use Rattle.looseruns.proofs.LooseCovering.{entries_follow}
 use Rattle.runs.specs.Halting.{HaltsAt}
 use Rattle.explore.specs.declared.Successor.{Successor}
 use Rattle.explore.specs.declared.EndedPath.{EndedPath}
-use Rattle.lawful.specs.LooseNodes.{IsLooseWayToEnd, AreAllLooseWays}
+use Rattle.explore.specs.declared.Expanded.{Expanded}
+use Rattle.lawful.specs.LooseNodes.{IsLooseWayOn, IsLooseWayToEnd, AreAllLooseWays, IsExpandedAt}
 use Rattle.lawful.specs.declared.node.LooseNode.{LooseNode}
 use Rattle.lawful.proofs.LongTurns.{step_is_permitted_loosely, some_may_be_next}
-use Rattle.lawful.proofs.Ways.{followed_cover}
+use Rattle.lawful.proofs.Ways.{followed_cover, covers_without_ends, none_to_tell}
 
 -- the end of a run that halts, as what an expansion tells
 abbrev pub IsRested : End → List (EndedPath LooseTransition End) → Type 0
 IsRested end xs = (one : EndedPath LooseTransition End) × (xs ≡ one ∷ []) × (one.end ≡ end) × (one.printed.items ≡ []) × (one.moves.items ≡ [])
 
-pub halted_sound : (class : ℕ → ℕ) (code : Compiled) (limits : Limits) (s : State) (end : End) (xs : List (EndedPath LooseTransition End)) → IsInOrder s → 0 < limits.max_entries → HaltsAt (design_of code) limits s end → IsRested end xs → All (IsLooseWayToEnd class code limits s) xs
+halted_sound : (class : ℕ → ℕ) (code : Compiled) (limits : Limits) (s : State) (end : End) (xs : List (EndedPath LooseTransition End)) → IsInOrder s → 0 < limits.max_entries → HaltsAt (design_of code) limits s end → IsRested end xs → All (IsLooseWayToEnd class code limits s) xs
 halted_sound class code limits s end xs order few halts (one, is, end_is, printed, moves) =
     let way : IsLooseWayToEnd class code limits s one =
     record {
@@ -46,17 +47,27 @@ none_follow class design limits s end halts entry f at_f timely =
     let (other, next) = some_may_be_next class limits s entry (step_is_permitted_loosely class design s entry f at_f) timely in
     absurd (halts.nothing other next)
 
-pub halted_all : (class : ℕ → ℕ) (code : Compiled) (limits : Limits) (s : State) (end : End) (successors : List (Successor LooseNode LooseTransition)) (xs : List (EndedPath LooseTransition End)) → IsInOrder s → HaltsAt (design_of code) limits s end → IsRested end xs → successors ≡ [] → AreAllLooseWays class code limits s successors xs
+halted_all : (class : ℕ → ℕ) (code : Compiled) (limits : Limits) (s : State) (end : End) (successors : List (Successor LooseNode LooseTransition)) (xs : List (EndedPath LooseTransition End)) → IsInOrder s → HaltsAt (design_of code) limits s end → IsRested end xs → successors ≡ [] → AreAllLooseWays class code limits s successors xs
 halted_all class code limits s end successors xs order halts (one, is, end_is, printed, moves) none =
     let design = design_of code in
     let follow : FollowMoves class design limits s [] = entries_follow class design limits s s [] order order (states_in-same class s) (none_follow class design limits s end halts) in
     let all : AreAllLooseWays class code limits s [] (one ∷ []) =
     record {
-      cover = followed_cover class design limits s [] follow;
+      ends = [];
+      cover = covers_without_ends class design limits s [] (followed_cover class design limits s [] follow);
+      ways_told = none_to_tell class design s (one ∷ []);
       told = λ other here. (0, one, omega arith, refl, (printed, end_is ∙ sym (halts.only other here)));
     } in
     subst (λ (l : List (Successor LooseNode LooseTransition)). AreAllLooseWays class code limits s l xs) (sym none)
     (subst (λ (l : List (EndedPath LooseTransition End)). AreAllLooseWays class code limits s [] l) (sym is) all)
+
+pub halted : (class : ℕ → ℕ) (code : Compiled) (limits : Limits) (s : State) (end : End) (x : Expanded LooseNode LooseTransition End) → IsInOrder s → 0 < limits.max_entries → HaltsAt (design_of code) limits s end → IsRested end x.ended.items → x.successors.items ≡ [] → IsExpandedAt class code limits s x
+halted class code limits s end x order few halts rested none =
+    record {
+      nexts = subst (All (IsLooseWayOn class code limits s)) (sym none) (All-nil (IsLooseWayOn class code limits s));
+      ends = halted_sound class code limits s end x.ended.items order few halts rested;
+      all = λ whole. halted_all class code limits s end x.successors.items x.ended.items order halts rested none;
+    }
 
 pub both_ok : {T E : Type 0} (r : Result T E) (P Q : T → Type 0) → IfOk r P → IfOk r Q → IfOk r (λ x. P x × Q x)
 both_ok (Ok x) P Q p q = (p, q)

@@ -12,16 +12,16 @@ use Rattle.explore.specs.Search.{IsShown, AreAllShown}
 use Rattle.loose.specs.declared.transition.LooseTransition.{LooseTransition}
 use Rattle.looseruns.proofs.LooseSearches.{all_loose_shown_are_all}
 use Rattle.lawful.specs.LooseNodes.{HoldsEffect, searched_runs}
-use Rattle.lawful.specs.Journals.{HasJournal, AreShownLawfully}
+use Rattle.lawful.specs.Journals.{HasLawfulJournal, AreShownLawfully}
 use Rattle.lawful.proofs.ShownLawfully.{still_shown}
 
 pub are_lawful : (code : Compiled) (limits : Limits) (loosely : List (Shown LooseTransition End)) (lawful : List (Shown Entry End)) → AreShownLawfully code limits loosely lawful → All (λ (s : Shown Entry End). IsLawfulText (design_of code) limits s.moves.items s.text.items s.end) lawful
 are_lawful code limits loosely lawful shown =
-    All-weaker (HasJournal code limits) (λ (s : Shown Entry End). IsLawfulText (design_of code) limits s.moves.items s.text.items s.end) (λ s journal. journal.lawful) lawful shown.journals
+    All-weaker (HasLawfulJournal code limits) (λ (s : Shown Entry End). IsLawfulText (design_of code) limits s.moves.items s.text.items s.end) (λ s journal. journal.lawful) lawful shown.journals
 
 pub are_within : (code : Compiled) (limits : Limits) (loosely : List (Shown LooseTransition End)) (lawful : List (Shown Entry End)) → AreShownLawfully code limits loosely lawful → All (λ (s : Shown Entry End). length s.moves.items ≤ limits.max_entries) lawful
 are_within code limits loosely lawful shown =
-    All-weaker (HasJournal code limits) (λ (s : Shown Entry End). length s.moves.items ≤ limits.max_entries) (λ s journal. journal.few) lawful shown.journals
+    All-weaker (HasLawfulJournal code limits) (λ (s : Shown Entry End). length s.moves.items ≤ limits.max_entries) (λ s journal. journal.few) lawful shown.journals
 
 -- where all loose runs are shown, the texts of all lawful journals are
 pub are_all : (code : Compiled) (class : ℕ → ℕ) (limits : Limits) (loosely : List (Shown LooseTransition End)) (lawful : List (Shown Entry End)) → AreShownLawfully code limits loosely lawful → AreAllShown (searched_runs code class limits) loosely → AreAllTexts (design_of code) limits (IsShown lawful)

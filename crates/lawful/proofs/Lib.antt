@@ -5,6 +5,7 @@ pub mod Ways
 pub mod Expansions
 pub mod Walked
 pub mod Remade
+pub mod ByParts
 pub mod ShownLawfully
 pub mod LawfulTexts
 pub mod FoundOrders

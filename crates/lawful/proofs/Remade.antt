@@ -1,5 +1,6 @@
 -- A node that is made again by the transitions of a run stands at that run.
-use Rattle.std.proofs.Common.{◌≡◌, ℕ, List, [], ◌∷◌, ◌++◌, refl, ap, ◌∙◌, subst}
+use Rattle.std.proofs.Common.{◌≡◌, ℕ, List, [], ◌∷◌, ◌++◌, append_assoc, refl, sym, ap, ◌∙◌, subst}
+use Rattle.std.proofs.lemmas.List.{append-nil}
 use Rattle.model.specs.declared.end.Limits.{Limits}
 use Rattle.model.specs.States.{State}
 use Rattle.model.specs.Runs.{Effect, silent, joined}
@@ -14,7 +15,7 @@ use Rattle.looseruns.specs.LooseRuns.{StandsLoosely}
 use Rattle.looseruns.specs.LooseGoing.{GoesLooselyTo}
 use Rattle.looseruns.proofs.RunsOfMoves.{timely_moves_before, timely_moves_after, comes_of_more, moves_run_in_order}
 use Rattle.looseruns.proofs.LooseGoing.{no_move_stays, loose_ways_go_on, leads_on}
-use Rattle.lawful.specs.Again.{HasGoneBy, HasGoneAgain}
+use Rattle.lawful.specs.Again.{HasGoneBy, HasTakenEach, HasGoneAgain}
 use Rattle.lawful.specs.LooseNodes.{IsReadyNode, HoldsEffect}
 use Rattle.lawful.specs.declared.node.LooseNode.{LooseNode}
 use Rattle.lawful.proofs.Ways.{in_state, taken_goes}
@@ -47,6 +48,21 @@ gone_more class old m new moves transition begun order order' gone code taken =
       state_is = refl;
       code_is = code ∙ gone.code_is;
     }
+
+-- no transition, or one more, and the lines
+
+pub taken_nowhere : (class : ℕ → ℕ) (m : MachineView) → IsInOrder (state_at m) → HasTakenEach class m [] m
+unfolding gone_nowhere
+taken_nowhere class m order = record { gone = gone_nowhere class m order; lines_are = sym (append-nil m.lines) }
+
+pub taken_more : (class : ℕ → ℕ) (old m new : MachineView) (moves : List LooseTransition) (transition : LooseTransition) → IsInOrder (state_at old) → IsInOrder (state_at m) → IsInOrder (state_at new) → HasTakenEach class old moves m → new.code ≡ m.code
+    → IsTakenLoosely class m.code (state_at m) m.lines transition (state_at new) new.lines → HasTakenEach class old (moves ++ transition ∷ []) new
+unfolding gone_more
+taken_more class old m new moves transition begun order order' before code taken =
+    let taken' : IsTakenLoosely class old.code (state_at m) m.lines transition (state_at new) new.lines = subst (λ (k : Compiled). IsTakenLoosely class k (state_at m) m.lines transition (state_at new) new.lines) before.gone.code_is taken in
+    let lines : new.lines ≡ old.lines ++ (before.gone.effect.lines ++ taken'.effect.lines) =
+    taken'.lines_are ∙ (ap (λ ls. ls ++ taken'.effect.lines) before.lines_are ∙ append_assoc old.lines before.gone.effect.lines taken'.effect.lines) in
+    record { gone = gone_more class old m new moves transition begun order order' before.gone code taken; lines_are = lines }
 
 -- the machine that is given back
 pub gone_again : (class : ℕ → ℕ) (old m new last : MachineView) (moves : List LooseTransition) → HasGoneBy class old moves m → state_at last ≡ state_at m → last.code ≡ m.code → last.lines ≡ [] → last.core.controls ≡ controls_of last.code → HasGoneAgain class old moves last

@@ -1,5 +1,5 @@
 -- What following loose transitions from a state comes to.
-use Rattle.std.proofs.Common.{◌≡◌, ℕ, ◌<◌, List, [], ◌∷◌, ◌++◌, Some, false, refl, sym, ap, ◌∙◌, subst, arith}
+use Rattle.std.proofs.Common.{◌≡◌, ℕ, ◌<◌, List, [], ◌∷◌, ◌++◌, Some, false, inl, refl, sym, ap, ◌∙◌, subst, arith}
 use Rattle.std.specs.List.{All, Contains}
 use Rattle.std.proofs.lemmas.List.Elements.{All-nil, All-cons, All-head, All-weaker, All-push, All-contains, Contains-append_left, Contains-append_right}
 use Rattle.std.proofs.lemmas.List.Quantifiers.{Any-push}
@@ -24,7 +24,7 @@ use Rattle.design.specs.DesignInvariant.{controls_of}
 use Rattle.regions.specs.Machine.{MachineView, state_at}
 use Rattle.explore.specs.declared.Successor.{Successor}
 use Rattle.explore.specs.declared.EndedPath.{EndedPath}
-use Rattle.explore.specs.Grown.{Extends}
+use Rattle.sharing.specs.Parts.{Extends}
 use Rattle.explore.specs.Search.{IsSuccessor, IsEndedPath, IsCovered}
 use Rattle.explore.proofs.Complete.{Any-extends}
 use Rattle.loose.specs.declared.transition.LooseTransition.{LooseTransition}
@@ -37,7 +37,10 @@ use Rattle.looseruns.specs.LooseCover.{FollowMoves, FollowLooseEntries, CoverMov
 use Rattle.looseruns.specs.LooseGoing.{GoesLooselyTo}
 use Rattle.looseruns.proofs.Moves.{loose_step_has_move, transition_is_timely}
 use Rattle.looseruns.proofs.LooseGoing.{no_move_stays, loose_step_goes_on, moves_lead_to_next, moves_lead_to_end}
-use Rattle.looseruns.proofs.LooseCovering.{entries_follow, covering_moves_cover, covering_loose_is_covered}
+use Rattle.looseruns.proofs.LooseCovering.{entries_follow}
+use Rattle.looseparts.specs.PartLaws.{CoverToEnds}
+use Rattle.looseparts.specs.EndingCover.{TellsWaysToEnds}
+use Rattle.looseparts.proofs.EndingCover.{covering_to_ends_is_covered}
 use Rattle.runs.specs.Halting.{GoesOn}
 use Rattle.runs.proofs.Halts.{only_long_turns_end}
 use Rattle.lawful.specs.LooseNodes.{IsReadyNode, HoldsEffect, searched_runs, IsLooseWayOn, IsLooseWayToEnd, IsToldHere, IsFollowedIn, AreLooseWaysFor, AreAllLooseWays}
@@ -178,6 +181,14 @@ followed_cover class design limits s ways follow transition more g end goes time
     let alone : AreTimelyMoves limits (transition ∷ []) = All-cons (IsTimelyMove limits) transition [] now (All-nil (IsTimelyMove limits)) in
     (transition ∷ [], more, omega arith, refl, (k, transition ∷ [], within, is, (joined (silent s) x, joined (silent s) x, first, first, alone, (refl, states_in-same class x.state)))))
 
+-- what covers does so with no ways to ends
+
+pub covers_without_ends : (class : ℕ → ℕ) (design : Design) (limits : Limits) (s : State) (ways : List (List LooseTransition)) → CoverMoves class design limits s ways → CoverToEnds class design limits s ways []
+covers_without_ends class design limits s ways covers transition more g end goes timely here = inl (covers transition more g end goes timely here)
+
+pub none_to_tell : (class : ℕ → ℕ) (design : Design) (s : State) (ended : List (EndedPath LooseTransition End)) → TellsWaysToEnds class design s [] ended
+none_to_tell class design s ended way f (k, less, at) goes = absurd (omega (arith, less))
+
 -- nothing is left out where each transition that may be taken was followed
 pub all_followed : (class : ℕ → ℕ) (code : Compiled) (limits : Limits) (s : State) (transitions : List LooseTransition) (successors : List (Successor LooseNode LooseTransition)) (ended : List (EndedPath LooseTransition End)) → IsInOrder s → GoesOn limits s
     → ((transition : LooseTransition) → MayBeTaken class s transition → Contains transitions transition) → AreLooseWaysFor class code limits s transitions successors ended → AreAllLooseWays class code limits s successors ended
@@ -190,7 +201,10 @@ all_followed class code limits s transitions successors ended order on within wa
     let one = All-contains (IsFollowedIn class code limits s successors ended) transitions transition ways.followed (within transition can) in
     (transition, its, one.steps (entry, f, its, at_f) ((transition_is_timely class limits s entry transition its).0 timely)) in
     record {
-      cover = followed_cover class design limits s (loose_ways_to successors) (entries_follow class design limits s s (loose_ways_to successors) order order (states_in-same class s) follow);
+      ends = [];
+      cover = covers_without_ends class design limits s (loose_ways_to successors)
+          (followed_cover class design limits s (loose_ways_to successors) (entries_follow class design limits s s (loose_ways_to successors) order order (states_in-same class s) follow));
+      ways_told = none_to_tell class design s ended;
       told = λ end here.
           let (p, is, (n, there, long)) = only_long_turns_end design limits s on.entry end on.next here in
           let going : s.finished ≡ false = (where_none s.finished Finished (entry_refusal s on.entry) on.next.0).0 in
@@ -220,8 +234,7 @@ node_ended class code limits node run ended at to =
 pub node_covered : (class : ℕ → ℕ) (code : Compiled) (limits : Limits) (node : LooseNode) (run : List LooseTransition) (successors : List (Successor LooseNode LooseTransition)) (ended : List (EndedPath LooseTransition End)) → StandsLoosely (HoldsEffect code) class (design_of code) limits node run → AreAllLooseWays class node.machine.value.code limits (state_at node.machine.value) successors ended → IsCovered (searched_runs code class limits) successors ended run
 node_covered class code limits node run successors ended at all =
     let there = here_or_there class code node at.held (λ k s. AreAllLooseWays class k limits s successors ended) at.holds all in
-    let covers = covering_moves_cover class (design_of code) limits run at.effect at.held.state (loose_ways_to successors) at.comes at.in_order at.one_node.1 there.cover in
-    covering_loose_is_covered (HoldsEffect code) class (design_of code) limits successors ended node run at covers there.told
+    covering_to_ends_is_covered (HoldsEffect code) class (design_of code) limits successors ended node run there.ends at there.cover there.ways_told there.told
 
 -- the node of a machine that took no transition stands at the run of none
 pub node_at_start : (class : ℕ → ℕ) (code : Compiled) (limits : Limits) (node : LooseNode) (m : MachineView) → node.machine.value ≡ m → m.code ≡ code → m.core.controls ≡ controls_of m.code → m.lines ≡ [] → state_at m ≡ start (design_of code) → StandsLoosely (HoldsEffect code) class (design_of code) limits node []

@@ -1,5 +1,5 @@
 -- A machine made again by its loose transitions.
-use Rattle.std.specs.Prelude.{◌≡◌, ℕ, List, []}
+use Rattle.std.specs.Prelude.{◌≡◌, ℕ, List, [], ◌++◌}
 use Rattle.model.specs.declared.end.Limits.{Limits}
 use Rattle.model.specs.States.{State}
 use Rattle.model.specs.Runs.{Effect}
@@ -20,6 +20,11 @@ pub record HasGoneBy (class : ℕ → ℕ) (old : MachineView) (moves : List Loo
   pub goes : (limits : Limits) → AreTimelyMoves limits moves → GoesLooselyTo class (design_of old.code) limits (state_at old) moves effect
   pub state_is : state_at new ≡ effect.state
   pub code_is : new.code ≡ old.code
+
+-- A machine took these transitions one after another, and their lines stand behind those that it had.
+pub record HasTakenEach (class : ℕ → ℕ) (old : MachineView) (moves : List LooseTransition) (new : MachineView) : Type 0 where
+  pub gone : HasGoneBy class old moves new
+  pub lines_are : new.lines ≡ old.lines ++ gone.effect.lines
 
 -- a machine took these transitions, and has no lines left
 pub record HasGoneAgain (class : ℕ → ℕ) (old : MachineView) (moves : List LooseTransition) (new : MachineView) : Type 0 where

@@ -16,19 +16,19 @@ abbrev pub texts_and_ends : {Move : Type 0} → List (Shown Move End) → List (
 texts_and_ends shown = map (λ s. (s.text.items, s.end)) shown
 
 -- what is shown has a lawful journal of its text and its end beside it
-abbrev pub HasJournal : Compiled → Limits → Shown Entry End → Type 0
-HasJournal code limits shown = IsJournalOf code limits shown.text.items shown.end shown.moves.items
+abbrev pub HasLawfulJournal : Compiled → Limits → Shown Entry End → Type 0
+HasLawfulJournal code limits shown = IsJournalOf code limits shown.text.items shown.end shown.moves.items
 
 -- the same text and the same end are shown, and a lawful journal of them
 pub record IsShownLawfully (code : Compiled) (limits : Limits) (shown : Shown LooseTransition End) (lawful : Shown Entry End) : Type 0 where
   pub text : lawful.text.items ≡ shown.text.items
   pub end_is : lawful.end ≡ shown.end
-  pub journal : HasJournal code limits lawful
+  pub journal : HasLawfulJournal code limits lawful
 
 -- the same texts and ends are shown, in their order, and a lawful journal of each
 pub record AreShownLawfully (code : Compiled) (limits : Limits) (shown : List (Shown LooseTransition End)) (lawful : List (Shown Entry End)) : Type 0 where
   pub same : texts_and_ends lawful ≡ texts_and_ends shown
-  pub journals : All (HasJournal code limits) lawful
+  pub journals : All (HasLawfulJournal code limits) lawful
 
 -- A search found the same texts and ends, with a lawful journal of each, in as many nodes, and it stopped for the same reason. A journal
 -- from which no run is said to come to an end is such a lawful one.

@@ -1,5 +1,5 @@
 -- What a node of the search holds, and what comes of following the loose transitions from it.
-use Rattle.std.specs.Prelude.{◌≡◌, ℕ, ◌<◌, ◌≤◌, List, [], ◌∷◌, Some}
+use Rattle.std.specs.Prelude.{◌≡◌, ℕ, ◌<◌, ◌≤◌, List, [], ◌∷◌, Some, IsTrue}
 use Rattle.std.specs.List.{All, Any, Contains}
 use Rattle.std.specs.Option.{ForSome}
 use Rattle.model.specs.declared.entry.Entry.{Entry}
@@ -12,23 +12,36 @@ use Rattle.model.specs.Runs.{Effect, silent, last_time, HasLongTurn}
 use Rattle.model.specs.Texts.{EndsHere}
 use Rattle.design.specs.Compiled.{Compiled, design_of}
 use Rattle.design.specs.DesignInvariant.{controls_of}
-use Rattle.regions.specs.Machine.{state_at}
+use Rattle.orders.specs.Alike.{IsInOrder}
+use Rattle.runs.specs.Halting.{GoesOn}
+use Rattle.regions.specs.Machine.{MachineView, state_at}
 use Rattle.loose.specs.declared.transition.LooseTransition.{LooseTransition}
 use Rattle.loose.specs.declared.transition.LooseTransition.TheVariants.{Process}
 use Rattle.loose.specs.Loose.{loose_transition_of, loose_step}
 use Rattle.explore.specs.declared.Successor.{Successor}
 use Rattle.explore.specs.declared.EndedPath.{EndedPath}
+use Rattle.explore.specs.declared.Expanded.{Expanded}
 use Rattle.explore.specs.SearchedRuns.{Runs}
 use Rattle.looseruns.specs.LooseMoves.{IsTimelyMove}
 use Rattle.looseruns.specs.LooseRuns.{loose_runs_of}
-use Rattle.looseruns.specs.LooseCover.{CoverMoves, loose_ways_to}
+use Rattle.looseruns.specs.LooseCover.{loose_ways_to}
 use Rattle.looseruns.specs.LooseGoing.{GoesLooselyTo}
+use Rattle.looseparts.specs.PartLaws.{CoverToEnds}
+use Rattle.looseparts.specs.EndingCover.{TellsWaysToEnds}
 use Rattle.lawful.specs.declared.node.LooseNode.{LooseNode}
 
 -- limits that a run may have: one entry at least, and no time past the last one
 pub record AreBounded (limits : Limits) : Type 0 where
   pub some_entry : 0 < limits.max_entries
   pub until : ForSome limits.until (λ until. until ≤ last_time)
+
+-- From where a machine stands a run may go on: its events stand in the order of their numbers, it has no lines, the limits leave room for an
+-- entry, and one may be next in time.
+pub record MayGoOn (limits : Limits) (m : MachineView) : Type 0 where
+  pub order : IsInOrder (state_at m)
+  pub silent_is : m.lines ≡ []
+  pub some_entry : 0 < limits.max_entries
+  pub goes_on : GoesOn limits (state_at m)
 
 -- A node is ready: its machine is one of this design, with no lines left in it.
 pub record IsReadyNode (code : Compiled) (node : LooseNode) : Type 0 where
@@ -82,7 +95,18 @@ pub record AreLooseWaysFor (class : ℕ → ℕ) (code : Compiled) (limits : Lim
   pub ends : All (IsLooseWayToEnd class code limits s) ended
   pub followed : All (IsFollowedIn class code limits s successors ended) transitions
 
--- Nothing is left out: the ways cover whatever leads on from the state, and each end that a run may have here is told.
+-- Nothing is left out: the ways to successors, and others to where the run has finished, cover whatever leads on from the state; what these
+-- others print is told, and each end that a run may have here is told.
 pub record AreAllLooseWays (class : ℕ → ℕ) (code : Compiled) (limits : Limits) (s : State) (successors : List (Successor LooseNode LooseTransition)) (ended : List (EndedPath LooseTransition End)) : Type 0 where
-  pub cover : CoverMoves class (design_of code) limits s (loose_ways_to successors)
+  -- the ways to where the run has finished
+  pub ends : List (List LooseTransition)
+  pub cover : CoverToEnds class (design_of code) limits s (loose_ways_to successors) ends
+  pub ways_told : TellsWaysToEnds class (design_of code) s ends ended
   pub told : (end : End) → EndsHere (design_of code) limits (silent s) end → IsToldHere ended end
+
+-- What comes of following the ways from a state: each successor and each end is a way from it, and where the answer is whole, nothing is left
+-- out.
+pub record IsExpandedAt (class : ℕ → ℕ) (code : Compiled) (limits : Limits) (s : State) (expanded : Expanded LooseNode LooseTransition End) : Type 0 where
+  pub nexts : All (IsLooseWayOn class code limits s) expanded.successors.items
+  pub ends : All (IsLooseWayToEnd class code limits s) expanded.ended.items
+  pub all : IsTrue expanded.whole → AreAllLooseWays class code limits s expanded.successors.items expanded.ended.items

@@ -3,7 +3,7 @@ ghost use Rattle.std.specs.Prelude.{IfOk, OnOk};
 ghost use Rattle.orders.specs.Alike.{IsInOrder};
 ghost use Rattle.loose.specs.Classes.{class_in};
 ghost use Rattle.regions.specs.Machine.{state_at};
-ghost use Rattle.lawful.specs.Again.{HasGoneAgain, HasGoneBy};
+ghost use Rattle.lawful.specs.Again.{HasGoneAgain, HasTakenEach};
 
 use crate::node::SearchRoom;
 use loose::transition::LooseTransition;
@@ -58,7 +58,7 @@ fn take_each(
     moves: &[LooseTransition],
 ) -> Result<(), AllocError>
     requires { IsInOrder (state_at machine.old) }
-    ensures { OnOk result (HasGoneBy (class_in classes.now) machine.old moves.now machine.new) }
+    ensures { OnOk result (HasTakenEach (class_in classes.now) machine.old moves.now machine.new) }
 {
     for transition in moves {
         match take_loosely(machine, classes, *transition) {
@@ -69,7 +69,23 @@ fn take_each(
     Ok(())
 }
 
-// Takes transitions with a log that the machine is lent, and drops their lines.
+/// Takes transitions, one after another, with a log that the machine is lent. Fails where one of them isn't taken.
+pub(crate) fn take_all(
+    log: &mut TurnLog,
+    machine: &mut Machine<'_>,
+    classes: &[u32],
+    moves: &[LooseTransition],
+) -> Result<(), AllocError>
+    requires { IsInOrder (state_at machine.old) }
+    ensures { OnOk result (HasTakenEach (class_in classes.now) machine.old moves.now machine.new) }
+{
+    machine.exchange_log(log);
+    let taken = take_each(machine, classes, moves);
+    machine.exchange_log(log);
+    taken
+}
+
+// Takes transitions, and drops their lines.
 fn go_again(
     log: &mut TurnLog,
     machine: &mut Machine<'_>,
@@ -79,9 +95,7 @@ fn go_again(
     ensures { OnOk result (HasGoneAgain (class_in classes.now) machine.old moves.now machine.new) }
 {
     machine.stands_in_order();
-    machine.exchange_log(log);
-    let taken = take_each(machine, classes, moves);
-    machine.exchange_log(log);
+    let taken = take_all(log, machine, classes, moves);
     let _lines = machine.take_lines();
     machine.stands();
     taken

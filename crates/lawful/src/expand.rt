@@ -1,7 +1,6 @@
-//! The loose runs that go on from a node: one way that stands for all, or each transition that may be taken, and the ends that a run may
-//! have there.
+//! The loose runs that go on from a node: one way that stands for all, or ways by parts that do, or each transition that may be taken, and
+//! the ends that a run may have there.
 ghost use Rattle.std.specs.Prelude.{◌≡◌, ◌↔◌, ◌<◌, [], ◌∷◌, IfOk, IfErr, OnOk, IsTrue};
-ghost use Rattle.std.specs.List.{All};
 ghost use Rattle.model.specs.declared.end.End.{End};
 ghost use Rattle.explore.specs.declared.EndedPath.{EndedPath};
 ghost use Rattle.orders.specs.Alike.{IsInOrder};
@@ -10,16 +9,16 @@ ghost use Rattle.loose.specs.declared.transition.LooseTransition.TheVariants as 
 ghost use Rattle.loose.specs.Classes.{class_in};
 ghost use Rattle.loosesteps.specs.LooselyTaken.{IsTakenLoosely, IsNotTakenLoosely};
 ghost use Rattle.looseruns.specs.LooseMoves.{IsTimelyMove};
-ghost use Rattle.runs.specs.Halting.{GoesOn};
 ghost use Rattle.regions.specs.Machine.{state_at};
 ghost use Rattle.regions.specs.declared.machine.TakeFault.TheVariants as faults;
 ghost use Rattle.design.specs.Compiled.{design_of};
 ghost use Rattle.loosewalks.specs.Sole.{IsLikeReached};
 ghost use Rattle.loosewalks.specs.LooseWalking.{HasWalkedLoosely};
 ghost use Rattle.lawful.specs.Following.{IsAdded, IsArrived, IsWayBy, TellsTurn};
-ghost use Rattle.lawful.specs.LooseNodes.{AreAllLooseWays, AreBounded, AreLooseWaysFor, IsReadyNode, IsLooseWayOn, IsLooseWayToEnd};
+ghost use Rattle.lawful.specs.LooseNodes.{AreBounded, AreLooseWaysFor, IsExpandedAt, MayGoOn};
 
-use crate::node::{LooseNode, SearchRoom};
+use crate::by_parts::{follow_parts, parts_within};
+use crate::node::{LooseNode, SearchRoom, next_of};
 use explore::{EndedPath, Expanded, Successor};
 use loose::transition::LooseTransition;
 use loosesteps::{loose_choices, take_loosely};
@@ -47,26 +46,6 @@ pub(crate) enum Way<'d> {
 pub(crate) struct Ways<'d> {
     successors: Vec<Successor<LooseNode<'d>, LooseTransition>>,
     ended: Vec<EndedPath<LooseTransition, End>>,
-}
-
-// The node of a machine that took these transitions, with the lines that they printed.
-fn next_of<'d>(
-    machine: Box<Machine<'d>>,
-    moves: Vec<LooseTransition>,
-) -> Successor<LooseNode<'d>, LooseTransition>
-    ensures moves { result.moves ≡ moves }
-    ensures printed { result.printed.items ≡ machine.entry.value.lines }
-    ensures ready { IsReadyNode machine.entry.value.code result.node }
-    ensures state { state_at result.node.machine.value ≡ state_at machine.entry.value }
-{
-    let mut machine = machine;
-    let printed = machine.take_lines().into_bytes();
-    machine.stands();
-    Successor {
-        node: LooseNode { machine },
-        printed,
-        moves,
-    }
 }
 
 // One transition alone.
@@ -257,13 +236,8 @@ fn branch<'d>(
     log: &mut TurnLog,
     machine: Box<Machine<'d>>,
 ) -> Result<Expanded<LooseNode<'d>, LooseTransition, End>, AllocError>
-    requires order { IsInOrder (state_at machine.value) }
-    requires silent { machine.value.lines ≡ [] }
-    requires some_entry { 0 < limits.max_entries }
-    requires goes_on { GoesOn limits (state_at machine.value) }
-    ensures next { IfOk result (λ x. All (IsLooseWayOn (class_in classes.now) machine.entry.value.code limits (state_at machine.entry.value)) x.successors.items) }
-    ensures sound { IfOk result (λ x. All (IsLooseWayToEnd (class_in classes.now) machine.entry.value.code limits (state_at machine.entry.value)) x.ended.items) }
-    ensures all { IfOk result (λ x. IsTrue x.whole → AreAllLooseWays (class_in classes.now) machine.entry.value.code limits (state_at machine.entry.value) x.successors.items x.ended.items) }
+    requires { MayGoOn limits machine.value }
+    ensures { IfOk result (IsExpandedAt (class_in classes.now) machine.entry.value.code limits (state_at machine.entry.value)) }
 {
     if machine.state().entries() >= u64::from(limits.max_entries) {
         return Ok(Expanded {
@@ -288,25 +262,40 @@ fn branch<'d>(
     })
 }
 
-// Follows each loose transition that may be taken where a machine stands, or tells the end that a run has there. Ways are left out where
-// the run has as many entries as it may have, and goes on from there: no way leads past that.
+// Follows ways by parts where they stand for all, and else each transition that may be taken.
+fn go_on<'d>(
+    alloc: Global,
+    classes: &[u32],
+    limits: Limits,
+    room: &mut SearchRoom,
+    machine: Box<Machine<'d>>,
+) -> Result<Expanded<LooseNode<'d>, LooseTransition, End>, AllocError>
+    requires { MayGoOn limits machine.value }
+    ensures { IfOk result (IsExpandedAt (class_in classes.now) machine.entry.value.code limits (state_at machine.entry.value)) }
+{
+    match parts_within(&mut room.parts, classes, limits, &machine)? {
+        Some(found) => follow_parts(alloc, classes, &mut room.log, machine, found),
+        None => branch(alloc, classes, limits, &mut room.log, machine),
+    }
+}
+
+// Follows the ways from where a machine stands, or tells the end that a run has there. Ways are left out where the run has as many entries
+// as it may have, and goes on from there: no way leads past that.
 fn follow<'d>(
     alloc: Global,
     classes: &[u32],
     limits: Limits,
-    log: &mut TurnLog,
+    room: &mut SearchRoom,
     machine: Box<Machine<'d>>,
 ) -> Result<Expanded<LooseNode<'d>, LooseTransition, End>, AllocError>
     requires order { IsInOrder (state_at machine.value) }
     requires silent { machine.value.lines ≡ [] }
     requires bounded { AreBounded limits }
-    ensures next { IfOk result (λ x. All (IsLooseWayOn (class_in classes.now) machine.entry.value.code limits (state_at machine.entry.value)) x.successors.items) }
-    ensures sound { IfOk result (λ x. All (IsLooseWayToEnd (class_in classes.now) machine.entry.value.code limits (state_at machine.entry.value)) x.ended.items) }
-    ensures all { IfOk result (λ x. IsTrue x.whole → AreAllLooseWays (class_in classes.now) machine.entry.value.code limits (state_at machine.entry.value) x.successors.items x.ended.items) }
+    ensures { IfOk result (IsExpandedAt (class_in classes.now) machine.entry.value.code limits (state_at machine.entry.value)) }
 {
     match end_at(limits, &machine) {
         Some(end) => halts(alloc, end),
-        None => branch(alloc, classes, limits, log, machine),
+        None => go_on(alloc, classes, limits, room, machine),
     }
 }
 
@@ -361,8 +350,9 @@ fn walk_with(
 }
 
 /// Follows each way from where a machine stands, by these classes of the registers. Where one way stands for all it goes on by that, up to
-/// the next choice or for some hundred steps; else it follows each loose transition that may be taken. Ways are left out where the run has
-/// as many entries as it may have, and goes on from there: no way leads past that.
+/// the next choice or for some hundred steps; else by ways of parts that are apart, where these stand for all; else it follows each loose
+/// transition that may be taken. Ways are left out where the run has as many entries as it may have, and goes on from there: no way leads
+/// past that.
 pub(crate) fn expand<'d>(
     alloc: Global,
     analyzed_design: &AnalyzedDesign<'_>,
@@ -375,14 +365,12 @@ pub(crate) fn expand<'d>(
     requires silent { machine.value.lines ≡ [] }
     requires reached { IsLikeReached (class_in classes.now) (design_of machine.value.code) (state_at machine.value) }
     requires bounded { AreBounded limits }
-    ensures next { IfOk result (λ x. All (IsLooseWayOn (class_in classes.now) machine.entry.value.code limits (state_at machine.entry.value)) x.successors.items) }
-    ensures sound { IfOk result (λ x. All (IsLooseWayToEnd (class_in classes.now) machine.entry.value.code limits (state_at machine.entry.value)) x.ended.items) }
-    ensures all { IfOk result (λ x. IsTrue x.whole → AreAllLooseWays (class_in classes.now) machine.entry.value.code limits (state_at machine.entry.value) x.successors.items x.ended.items) }
+    ensures { IfOk result (IsExpandedAt (class_in classes.now) machine.entry.value.code limits (state_at machine.entry.value)) }
 {
     let mut machine = machine;
     let moves = walk_with(alloc, analyzed_design, classes, limits, room, &mut machine)?;
     if moves.is_empty() {
-        follow(alloc, classes, limits, &mut room.log, machine)
+        follow(alloc, classes, limits, room, machine)
     } else {
         arrive(alloc, machine, moves)
     }

@@ -2,8 +2,9 @@
 //!
 //! 1. A `LooseNode` is where a loose run has come to: the machine that took its transitions, up to the order of updates of different
 //!    classes.
-//! 2. `expand` goes on from a node by the one way that stands for all, where there is one. Else it follows each loose transition that may be
-//!    taken there, and tells the ends that a run may have.
+//! 2. `expand` goes on from a node by the one way that stands for all, where there is one. Else it goes on by ways of parts that are apart,
+//!    where these stand for all (`by_parts`), or follows each loose transition that may be taken there; and it tells the ends that a run may
+//!    have.
 //! 3. Where the search asks for the node of a run that it didn't keep, `again` takes the transitions from a node that it kept.
 //! 4. `lawful_orders` gives that to the search of `explore`. Each lawful journal is a loose run, so that where the search answers that all is
 //!    covered, the texts and ends of all lawful journals in time are shown.
@@ -14,6 +15,7 @@
 #![tactic(auto)]
 
 mod again;
+mod by_parts;
 mod endless;
 mod expand;
 mod journals;

@@ -1,8 +1,13 @@
 //! A node of the search: where a loose run so far has come to.
-ghost use Rattle.std.specs.Prelude.{OnOk};
+ghost use Rattle.std.specs.Prelude.{◌≡◌, OnOk};
 ghost use Rattle.loose.specs.Classes.{class_in};
+ghost use Rattle.regions.specs.Machine.{state_at};
 ghost use Rattle.statekeys.specs.ClassKeys.{IsClassKey};
+ghost use Rattle.lawful.specs.LooseNodes.{IsReadyNode};
 
+use explore::Successor;
+use loose::transition::LooseTransition;
+use looseparts::PartsRoom;
 use loosewalks::LooseRoom;
 use regions::Machine;
 use statekeys::{Scratch, class_key};
@@ -16,12 +21,33 @@ pub struct LooseNode<'d> {
     pub machine: Box<Machine<'d>>,
 }
 
-/// What is kept from one node to the next: a log that machines are lent for their turns, what walks work in, and room in which keys are
-/// made.
+/// The node of a machine that took these transitions, with the lines that they printed.
+pub(crate) fn next_of<'d>(
+    machine: Box<Machine<'d>>,
+    moves: Vec<LooseTransition>,
+) -> Successor<LooseNode<'d>, LooseTransition>
+    ensures moves { result.moves ≡ moves }
+    ensures printed { result.printed.items ≡ machine.entry.value.lines }
+    ensures ready { IsReadyNode machine.entry.value.code result.node }
+    ensures state { state_at result.node.machine.value ≡ state_at machine.entry.value }
+{
+    let mut machine = machine;
+    let printed = machine.take_lines().into_bytes();
+    machine.stands();
+    Successor {
+        node: LooseNode { machine },
+        printed,
+        moves,
+    }
+}
+
+/// What is kept from one node to the next: a log that machines are lent for their turns, what walks work in, what ways by parts are found
+/// in, and room in which keys are made.
 #[derive(Drop)]
 pub(crate) struct SearchRoom {
     pub(crate) log: TurnLog,
     pub(crate) walk: LooseRoom,
+    pub(crate) parts: PartsRoom,
     scratch: Scratch,
 }
 
@@ -31,6 +57,7 @@ impl SearchRoom {
         SearchRoom {
             log: TurnLog::new(alloc),
             walk: LooseRoom::new(alloc),
+            parts: PartsRoom::new(alloc),
             scratch: Scratch::new(alloc),
         }
     }

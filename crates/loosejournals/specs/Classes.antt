@@ -13,8 +13,8 @@ abbrev pub targets_of : Statements → List ℕ
 targets_of ss = filter_map target_of (all_of ss)
 
 -- the process with a number assigns a register by a nonblocking assignment
-abbrev pub AssignsLater : Design → ℕ → ℕ → Type 0
-AssignsLater design p r = Contains (targets_of (process_at design p).body) r
+abbrev pub ProcessAssignsLater : Design → ℕ → ℕ → Type 0
+ProcessAssignsLater design p r = Contains (targets_of (process_at design p).body) r
 
 -- these registers are of one class
 abbrev pub AreTogether : List ℕ → List ℕ → Type 0
@@ -28,7 +28,7 @@ AreStillTogether old new = (one other : ℕ) → slice_index old one ≡ slice_i
 -- two registers that one process assigns by nonblocking assignments are of one class
 abbrev pub AreTogetherIn : Design → List ℕ → Type 0
 AreTogetherIn design classes =
-    (p one other : ℕ) → AssignsLater design p one → AssignsLater design p other → slice_index classes one ≡ slice_index classes other
+    (p one other : ℕ) → ProcessAssignsLater design p one → ProcessAssignsLater design p other → slice_index classes one ≡ slice_index classes other
 
 -- a class, where one class is given another name
 abbrev pub renamed_class : ℕ → ℕ → ℕ → ℕ

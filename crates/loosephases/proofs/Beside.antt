@@ -14,9 +14,9 @@ use Rattle.loose.specs.Loose.{of_class, updates_of_class, AreAlikeIn, IsAlikeFut
 use Rattle.loose.proofs.ClassLists.{alike_in-same}
 use Rattle.loose.proofs.ClassFutures.{alike_future_in-same}
 use Rattle.loose.proofs.ClassStates.{states_in-sym, states_in-trans}
-use Rattle.phases.specs.Phase.{IsActive, Block, continuation_of, IsBlock, waits_for_register, IsOutput}
+use Rattle.phases.specs.Phase.{IsActive, Block, continuation_of, IsBlock, StandsSince, waits_for_register, IsOutput}
 use Rattle.phases.proofs.Changes.{woke, awake, one_where, Changed, changed}
-use Rattle.phases.proofs.Members.{Standing, stands_changed}
+use Rattle.phases.proofs.Members.{Standing, stands_now, stands_changed}
 use Rattle.loosephases.specs.Held.{HasCone, IsOutsideCone}
 
 -- a state but for its active events, its processes and its values
@@ -60,13 +60,13 @@ Beside class members block t u =
       updates : (c : ℕ) → updates_of_class class c t.active ≡ updates_of_class class c u.active;
     }
 
--- with what stays of the members and of the others
-abbrev pub Together : (ℕ → ℕ) → Design → List ℕ → (ℕ → Block) → State → State → Type 0
-Together class design members block t u =
+-- with what stays of the members and of the others, since a start
+abbrev pub Together : (ℕ → ℕ) → Design → State → List ℕ → (ℕ → Block) → State → State → Type 0
+Together class design start members block t u =
     record {
       beside : Beside class members block t u;
-      here : (p : ℕ) → contains members p ≡ true → Standing design t p (block p);
-      there : (p : ℕ) → contains members p ≡ true → Standing design u p (block p);
+      here : (p : ℕ) → contains members p ≡ true → StandsSince design start t p (block p);
+      there : (p : ℕ) → contains members p ≡ true → StandsSince design start u p (block p);
       quiet : (q r : ℕ) → contains members q ≡ false → IsOutput members block r → waits_for_register (continuation_of t q) r ≡ false;
     }
 
@@ -87,12 +87,12 @@ same_woke t u r v p value continuation =
     ap (λ x. not (same_vector x v) && is_woken r x v (continuation_of t p)) value
     ∙ ap (λ y. not (same_vector (value_of u.store r) v) && is_woken r (value_of u.store r) v y) continuation
 
-woken_too : (design : Design) (t u f g : State) (r p : ℕ) (v : Vector) (b : Block) → value_of t.store r ≡ value_of u.store r → Changed t r v f → Changed u r v g → Standing design t p b → Standing design u p b
+woken_too : (t u f g : State) (r p : ℕ) (v : Vector) (b : Block) → value_of t.store r ≡ value_of u.store r → Changed t r v f → Changed u r v g → Standing t p b → Standing u p b
     → IsActive f p → IsActive t p ⊎ IsActive g p
-woken_too design t u f g r p v b value c d (inl (one, continuation)) there active = inl (omega (arith, one))
-woken_too design t u f g r p v b value c d (inr (none, continuation, consistent)) (inl (one, continuation')) active =
+woken_too t u f g r p v b value c d (inl (one, continuation)) there active = inl (omega (arith, one))
+woken_too t u f g r p v b value c d (inr (none, continuation)) (inl (one, continuation')) active =
     inr (omega (arith, one, d.evaluations p))
-woken_too design t u f g r p v b value c d (inr (none, continuation, consistent)) (inr (none', continuation', consistent')) active =
+woken_too t u f g r p v b value c d (inr (none, continuation)) (inr (none', continuation')) active =
     let same : woke t r v p ≡ woke u r v p = same_woke t u r v p value (continuation ∙ sym continuation') in
     let count : (if woke t r v p then 1 else 0) ≡ (if woke u r v p then 1 else 0) = ap one_where same in
     inr (omega (arith, c.evaluations p, d.evaluations p, none, count, active))
@@ -120,9 +120,9 @@ changed_other t u f g r q v c d value continuation evaluations =
       omega (arith, c.evaluations q, d.evaluations q, evaluations, count),
     )
 
-changed_beside : (class : ℕ → ℕ) (design : Design) (members : List ℕ) (block : ℕ → Block) (t u f g : State) (r : ℕ) (v : Vector) → Together class design members block t u → (IsOutput members block r → ⊥)
+changed_beside : (class : ℕ → ℕ) (design : Design) (start : State) (members : List ℕ) (block : ℕ → Block) (t u f g : State) (r : ℕ) (v : Vector) → Together class design start members block t u → (IsOutput members block r → ⊥)
     → Changed t r v f → Changed u r v g → Beside class members block f g
-changed_beside class design members block t u f g r v h none c d =
+changed_beside class design start members block t u f g r v h none c d =
     let b : Beside class members block t u = h.beside in
     let own : value_of t.store r ≡ value_of u.store r = b.plain r none in
     let more : (p : ℕ) → contains members p ≡ true → IsActive u p → IsActive g p = λ p member active. omega (arith, active, d.evaluations p) in
@@ -135,7 +135,7 @@ changed_beside class design members block t u f g r v h none c d =
       outside = λ q out. changed_values t u f g r q v b.registers c d own (b.outside q (out.0, cone_before members block u g out.0 more out.1, out.2));
       pending = λ cone p q has member active out.
           in_cone class members block t u g cone p q b (cone_before members block u g cone more has) has member out
-          (woken_too design t u f g r p v (block p) own c d (h.here p member) (h.there p member) active);
+          (woken_too t u f g r p v (block p) own c d (stands_now design start t p (block p) (h.here p member)) (stands_now design start u p (block p) (h.there p member)) active);
       others = λ q none'. changed_other t u f g r q v c d own (b.others q none').0 (b.others q none').1;
       updates = λ k. ap (of_class class k) c.updates ∙ b.updates k ∙ ap (of_class class k) (sym d.updates);
     }
@@ -144,15 +144,15 @@ pub awake_quiet : (b : Bool) (x : Continuation) (r : ℕ) → waits_for_register
 awake_quiet true x r h = refl
 awake_quiet false x r h = h
 
-pub one_together : (class : ℕ → ℕ) (design : Design) (members : List ℕ) (block : ℕ → Block) (t u : State) (r : ℕ) (v : Vector) → ((p : ℕ) → contains members p ≡ true → IsBlock design p (block p))
-    → (IsOutput members block r → ⊥) → Together class design members block t u → Together class design members block (change t r v) (change u r v)
-one_together class design members block t u r v blocks none h =
+pub one_together : (class : ℕ → ℕ) (design : Design) (start : State) (members : List ℕ) (block : ℕ → Block) (t u : State) (r : ℕ) (v : Vector) → ((p : ℕ) → contains members p ≡ true → IsBlock design p (block p))
+    → (IsOutput members block r → ⊥) → Together class design start members block t u → Together class design start members block (change t r v) (change u r v)
+one_together class design start members block t u r v blocks none h =
     let c : Changed t r v (change t r v) = changed t r v in
     let d : Changed u r v (change u r v) = changed u r v in
     record {
-      beside = changed_beside class design members block t u (change t r v) (change u r v) r v h none c d;
-      here = λ p member. stands_changed design t (change t r v) r v p (block p) (blocks p member) (no_out members block p r (contains (block p).outputs r) refl member none) c (h.here p member);
-      there = λ p member. stands_changed design u (change u r v) r v p (block p) (blocks p member) (no_out members block p r (contains (block p).outputs r) refl member none) d (h.there p member);
+      beside = changed_beside class design start members block t u (change t r v) (change u r v) r v h none c d;
+      here = λ p member. stands_changed design start t (change t r v) r v p (block p) (blocks p member) (no_out members block p r (contains (block p).outputs r) refl member none) c (h.here p member);
+      there = λ p member. stands_changed design start u (change u r v) r v p (block p) (blocks p member) (no_out members block p r (contains (block p).outputs r) refl member none) d (h.there p member);
       quiet = λ q k none' out. ap (λ x. waits_for_register x k) (c.processes q) ∙ awake_quiet (woke t r v q) (continuation_of t q) k (h.quiet q k none' out);
     }
 
@@ -166,12 +166,12 @@ or_right : (a b : Bool) → b ≡ true → (a || b) ≡ true
 or_right true b h = refl
 or_right false b h = h
 
-pub all_together : (class : ℕ → ℕ) (design : Design) (members : List ℕ) (block : ℕ → Block) (ws : List (ℕ × Vector)) (t u : State) → ((p : ℕ) → contains members p ≡ true → IsBlock design p (block p))
-    → ((r : ℕ) → contains (map (λ (w : ℕ × Vector). w.0) ws) r ≡ true → IsOutput members block r → ⊥) → Together class design members block t u
-    → Together class design members block (change_all t ws) (change_all u ws)
-all_together class design members block [] t u blocks none h = h
-all_together class design members block (w ∷ ws) t u blocks none h =
+pub all_together : (class : ℕ → ℕ) (design : Design) (start : State) (members : List ℕ) (block : ℕ → Block) (ws : List (ℕ × Vector)) (t u : State) → ((p : ℕ) → contains members p ≡ true → IsBlock design p (block p))
+    → ((r : ℕ) → contains (map (λ (w : ℕ × Vector). w.0) ws) r ≡ true → IsOutput members block r → ⊥) → Together class design start members block t u
+    → Together class design start members block (change_all t ws) (change_all u ws)
+all_together class design start members block [] t u blocks none h = h
+all_together class design start members block (w ∷ ws) t u blocks none h =
     let first : IsOutput members block w.0 → ⊥ = none w.0 (or_left (w.0 == w.0) (contains (map (λ (w : ℕ × Vector). w.0) ws) w.0) (eq-eqb w.0 w.0 refl)) in
-    all_together class design members block ws (change t w.0 w.1) (change u w.0 w.1) blocks
+    all_together class design start members block ws (change t w.0 w.1) (change u w.0 w.1) blocks
     (λ r there. none r (or_right (w.0 == r) (contains (map (λ (w : ℕ × Vector). w.0) ws) r) there))
-    (one_together class design members block t u w.0 w.1 blocks first h)
+    (one_together class design start members block t u w.0 w.1 blocks first h)

@@ -17,11 +17,11 @@ use Rattle.orders.proofs.Stores.{append-none, length_all, all_other}
 use Rattle.orders.proofs.TurnFrame.{turn_has_frame}
 use Rattle.loose.specs.Loose.{of_class, AlikeIn}
 use Rattle.loose.proofs.ClassStates.{states_in-trans}
-use Rattle.phases.specs.Phase.{IsActive, Block, triggers, ComputesOutputs, IsBlock, continuation_of, IsConsistent, IsTurnPending, HasSettled, waits_for_register, IsOutput}
+use Rattle.phases.specs.Phase.{IsActive, Block, triggers, ComputesOutputs, IsBlock, continuation_of, IsConsistent, IsTurnPending, IsBlockWaiting, HasSettled, StandsSince, waits_for_register, IsOutput}
 use Rattle.phases.proofs.Values.{written_again}
 use Rattle.phases.proofs.Events.{active_at, AllChanged, all_changed, stands_after, Unmoved, all_unmoved, taken_other, taken_own, stands_taken}
-use Rattle.phases.proofs.Members.{Standing}
-use Rattle.loosephases.specs.Held.{IsHeld, HasCone, IsOutsideCone}
+use Rattle.phases.proofs.Members.{Standing, stands_now}
+use Rattle.loosephases.specs.Held.{AreHeldMembers, HasCone, IsOutsideCone}
 use Rattle.loosephases.proofs.Weights.{no_wait}
 use Rattle.loosephases.proofs.Beside.{bare, bare_same, Beside, Together}
 use Rattle.loosephases.proofs.HeldTurns.{nobody, length_set_continuation, stands_moved, not_one, apart_from}
@@ -137,37 +137,37 @@ unwritten_value s n r t none =
 -- what is pending behind the turn has its outputs in the cone
 
 woken_in : (class : ℕ → ℕ) (design : Design) (members : List ℕ) (block : ℕ → Block) (s u : State) (n p q r : ℕ) (t : turns.Turn) (cone : List ℕ) → IsInOrder s → MemberTurn design s members block n p t
-    → Beside class members block s u → HasCone u members block cone → (p == q) ≡ false → contains members q ≡ true → HasSettled design s q (block q) → contains (block q).outputs r ≡ true
+    → Beside class members block s u → HasCone u members block cone → (p == q) ≡ false → contains members q ≡ true → IsBlockWaiting s q (block q) → contains (block q).outputs r ≡ true
     → IsActive (after_member s n p t) q → Common (written_by t) (block q).inputs ⊎ ((k : ℕ) → contains (written_by t) k ≡ true → contains (block q).inputs k ≡ false) → contains cone r ≡ true
 woken_in class design members block s u n p q r t cone i m b has other member h out active (inl (k, wrote, input)) =
     let there : contains cone k ≡ true = b.pending cone p k has m.member (active_at s n p i m.at) (m.computes.writes k wrote) in
     has.goes_on q k r member input there out
 woken_in class design members block s u n p q r t cone i m b has other member h out active (inr apart) =
-    let still : Unmoved (taking n s) q (change_all (taking n s) t.writes) = all_unmoved (taking n s) t.writes q (λ k wrote. no_wait design s q k (block q) (inr h) (apart k wrote)) in
+    let still : Unmoved (taking n s) q (change_all (taking n s) t.writes) = all_unmoved (taking n s) t.writes q (λ k wrote. no_wait s q k (block q) (inr h) (apart k wrote)) in
     absurd (omega (arith, active, still.1, taken_other s n p q s.next_event i m.at other, h.0))
 
 pending_in : (class : ℕ → ℕ) (design : Design) (members : List ℕ) (block : ℕ → Block) (s u : State) (n p q r : ℕ) (t : turns.Turn) (cone : List ℕ) → IsInOrder s → MemberTurn design s members block n p t
-    → Beside class members block s u → HasCone u members block cone → (p == q) ≡ false → contains members q ≡ true → Standing design s q (block q) → contains (block q).outputs r ≡ true
+    → Beside class members block s u → HasCone u members block cone → (p == q) ≡ false → contains members q ≡ true → Standing s q (block q) → contains (block q).outputs r ≡ true
     → IsActive (after_member s n p t) q → contains cone r ≡ true
 pending_in class design members block s u n p q r t cone i m b has other member (inl (one, continuation)) out active = b.pending cone q r has member (omega (arith, one)) out
 pending_in class design members block s u n p q r t cone i m b has other member (inr h) out active =
     woken_in class design members block s u n p q r t cone i m b has other member h out active (common_or_none (written_by t) (block q).inputs)
 
-own_pending : (design : Design) (members : List ℕ) (block : ℕ → Block) (rank : ℕ → ℕ) (s : State) (n p : ℕ) (t : turns.Turn) → IsInOrder s → IsHeld design s members block rank
+own_pending : (design : Design) (members : List ℕ) (block : ℕ → Block) (rank : ℕ → ℕ) (s : State) (n p : ℕ) (t : turns.Turn) → IsInOrder s → AreHeldMembers design s members block rank
     → MemberTurn design s members block n p t → HasSettled design (after_member s n p t) p (block p)
 own_pending design members block rank s n p t i held m =
     settled_after design s n p (block p) t i m.at (held.exist p m.member) (held.blocks p m.member) m.pending m.turn m.computes
 
-cone_after : (class : ℕ → ℕ) (design : Design) (members : List ℕ) (block : ℕ → Block) (rank : ℕ → ℕ) (s u : State) (n p q r : ℕ) (t : turns.Turn) (cone : List ℕ) (is : Bool) → (p == q) ≡ is → IsInOrder s
-    → IsHeld design s members block rank → MemberTurn design s members block n p t → Together class design members block s u → HasCone u members block cone → contains members q ≡ true
+cone_after : (class : ℕ → ℕ) (design : Design) (start : State) (members : List ℕ) (block : ℕ → Block) (rank : ℕ → ℕ) (s u : State) (n p q r : ℕ) (t : turns.Turn) (cone : List ℕ) (is : Bool) → (p == q) ≡ is → IsInOrder s
+    → AreHeldMembers design s members block rank → MemberTurn design s members block n p t → Together class design start members block s u → HasCone u members block cone → contains members q ≡ true
     → IsActive (after_member s n p t) q → contains (block q).outputs r ≡ true → contains cone r ≡ true
-cone_after class design members block rank s u n p q r t cone true is i held m h has member active out =
+cone_after class design start members block rank s u n p q r t cone true is i held m h has member active out =
     let same : p ≡ q = eqb-true p q is in
     let settled : HasSettled design (after_member s n p t) p (block p) = own_pending design members block rank s n p t i held m in
     let none : evaluations_in q (after_member s n p t).active ≡ 0 = ap (λ k. evaluations_in k (after_member s n p t).active) (sym same) ∙ settled.0 in
     absurd (omega (arith, active, none))
-cone_after class design members block rank s u n p q r t cone false is i held m h has member active out =
-    pending_in class design members block s u n p q r t cone i m h.beside has is member (h.here q member) out active
+cone_after class design start members block rank s u n p q r t cone false is i held m h has member active out =
+    pending_in class design members block s u n p q r t cone i m h.beside has is member (stands_now design start s q (block q) (h.here q member)) out active
 
 -- a process that is no member is as it was
 
@@ -176,18 +176,18 @@ differ members p q member none =
     let other : (q == p) ≡ false = apart_from members q p (q == p) refl none member in
     grind (arith, eqb_tells p q, eqb_tells q p, other)
 
-other_stays : (class : ℕ → ℕ) (design : Design) (members : List ℕ) (block : ℕ → Block) (s u : State) (n p q : ℕ) (t : turns.Turn) → IsInOrder s → MemberTurn design s members block n p t
-    → Together class design members block s u → contains members q ≡ false
+other_stays : (class : ℕ → ℕ) (design : Design) (start : State) (members : List ℕ) (block : ℕ → Block) (s u : State) (n p q : ℕ) (t : turns.Turn) → IsInOrder s → MemberTurn design s members block n p t
+    → Together class design start members block s u → contains members q ≡ false
     → (continuation_of (after_member s n p t) q ≡ continuation_of s q) × (evaluations_in q (after_member s n p t).active ≡ evaluations_in q s.active)
-other_stays class design members block s u n p q t i m h none =
+other_stays class design start members block s u n p q t i m h none =
     let x : State = change_all (taking n s) t.writes in
     let other : (p == q) ≡ false = differ members p q m.member none in
     let still : Unmoved (taking n s) q x = all_unmoved (taking n s) t.writes q (λ k wrote. h.quiet q k none (p, m.member, m.computes.writes k wrote)) in
     (get_or-set_other x.processes p q (continuation_after t) nobody (not_one p q other) ∙ still.0, still.1 ∙ taken_other s n p q s.next_event i m.at other)
 
-member_beside : (class : ℕ → ℕ) (design : Design) (members : List ℕ) (block : ℕ → Block) (rank : ℕ → ℕ) (s u : State) (n p : ℕ) (t : turns.Turn) → IsInOrder s → IsHeld design s members block rank
-    → MemberTurn design s members block n p t → Together class design members block s u → Beside class members block (after_member s n p t) u
-member_beside class design members block rank s u n p t i held m h =
+member_beside : (class : ℕ → ℕ) (design : Design) (start : State) (members : List ℕ) (block : ℕ → Block) (rank : ℕ → ℕ) (s u : State) (n p : ℕ) (t : turns.Turn) → IsInOrder s → AreHeldMembers design s members block rank
+    → MemberTurn design s members block n p t → Together class design start members block s u → Beside class members block (after_member s n p t) u
+member_beside class design start members block rank s u n p t i held m h =
     let x : State = change_all (taking n s) t.writes in
     let f : State = after_member s n p t in
     let all : AllChanged (taking n s) t.writes x = all_changed (taking n s) t.writes in
@@ -201,35 +201,35 @@ member_beside class design members block rank s u n p t i held m h =
       count = length_set_continuation x.processes p (continuation_after t) ∙ all.count ∙ b.count;
       plain = λ r none. unwritten_value s n r t (plain_unwritten members block p r t (contains (written_by t) r) refl m.member c none) ∙ b.plain r none;
       outside = λ r out. unwritten_value s n r t (outside_unwritten class design members block s u n p r t (contains (written_by t) r) refl i m b out) ∙ b.outside r out;
-      pending = λ cone q r has member active out. cone_after class design members block rank s u n p q r t cone (p == q) refl i held m h has member active out;
+      pending = λ cone q r has member active out. cone_after class design start members block rank s u n p q r t cone (p == q) refl i held m h has member active out;
       others = λ q none.
-          let (continuation, evaluations) = other_stays class design members block s u n p q t i m h none in
+          let (continuation, evaluations) = other_stays class design start members block s u n p q t i m h none in
           (continuation ∙ (b.others q none).0, evaluations ∙ (b.others q none).1);
       updates = λ k. ap (of_class class k) (all.updates ∙ sym (updates_left n p 0 s.next_event s.active i.active m.at)) ∙ b.updates k;
     }
 
-member_stands : (class : ℕ → ℕ) (design : Design) (members : List ℕ) (block : ℕ → Block) (rank : ℕ → ℕ) (s u : State) (n p q : ℕ) (t : turns.Turn) (is : Bool) → (p == q) ≡ is → IsInOrder s
-    → IsHeld design s members block rank → MemberTurn design s members block n p t → Together class design members block s u → contains members q ≡ true
-    → Standing design (after_member s n p t) q (block q)
-member_stands class design members block rank s u n p q t true is i held m h member =
+member_stands : (class : ℕ → ℕ) (design : Design) (start : State) (members : List ℕ) (block : ℕ → Block) (rank : ℕ → ℕ) (s u : State) (n p q : ℕ) (t : turns.Turn) (is : Bool) → (p == q) ≡ is → IsInOrder s
+    → AreHeldMembers design s members block rank → MemberTurn design s members block n p t → Together class design start members block s u → contains members q ≡ true
+    → StandsSince design start (after_member s n p t) q (block q)
+member_stands class design start members block rank s u n p q t true is i held m h member =
     let same : p ≡ q = eqb-true p q is in
-    subst (λ k. Standing design (after_member s n p t) k (block k)) same (inr (own_pending design members block rank s n p t i held m))
-member_stands class design members block rank s u n p q t false is i held m h member =
+    subst (λ k. StandsSince design start (after_member s n p t) k (block k)) same (inr (inl (own_pending design members block rank s n p t i held m)))
+member_stands class design start members block rank s u n p q t false is i held m h member =
     let x : State = change_all (taking n s) t.writes in
     let other : q ≢ p = not_one p q is in
-    let taken : Standing design (taking n s) q (block q) = stands_taken design s n q (block q) (taken_other s n p q s.next_event i m.at is) (h.here q member) in
-    let after : Standing design x q (block q) =
-    stands_after design (taking n s) t.writes q (block q) (held.blocks q member) (λ r wrote. held.single p q r m.member member (λ same. other (sym same)) (m.computes.writes r wrote)) taken in
-    stands_moved design x (after_member s n p t) q (block q) refl refl refl (get_or-set_other x.processes p q (continuation_after t) nobody other) after
+    let taken : StandsSince design start (taking n s) q (block q) = stands_taken design start s n q (block q) (taken_other s n p q s.next_event i m.at is) (h.here q member) in
+    let after : StandsSince design start x q (block q) =
+    stands_after design start (taking n s) t.writes q (block q) (held.blocks q member) (λ r wrote. held.single p q r m.member member (λ same. other (sym same)) (m.computes.writes r wrote)) taken in
+    stands_moved design start x (after_member s n p t) q (block q) refl refl refl (get_or-set_other x.processes p q (continuation_after t) nobody other) after
 
-pub member_together : (class : ℕ → ℕ) (design : Design) (members : List ℕ) (block : ℕ → Block) (rank : ℕ → ℕ) (s u : State) (n p : ℕ) (t : turns.Turn) → IsInOrder s → IsHeld design s members block rank
-    → MemberTurn design s members block n p t → Together class design members block s u → Together class design members block (after_member s n p t) u
-member_together class design members block rank s u n p t i held m h =
+pub member_together : (class : ℕ → ℕ) (design : Design) (start : State) (members : List ℕ) (block : ℕ → Block) (rank : ℕ → ℕ) (s u : State) (n p : ℕ) (t : turns.Turn) → IsInOrder s → AreHeldMembers design s members block rank
+    → MemberTurn design s members block n p t → Together class design start members block s u → Together class design start members block (after_member s n p t) u
+member_together class design start members block rank s u n p t i held m h =
     record {
-      beside = member_beside class design members block rank s u n p t i held m h;
-      here = λ q member. member_stands class design members block rank s u n p q t (p == q) refl i held m h member;
+      beside = member_beside class design start members block rank s u n p t i held m h;
+      here = λ q member. member_stands class design start members block rank s u n p q t (p == q) refl i held m h member;
       there = h.there;
       quiet = λ q r none out.
-          let (continuation, evaluations) = other_stays class design members block s u n p q t i m h none in
+          let (continuation, evaluations) = other_stays class design start members block s u n p q t i m h none in
           ap (λ y. waits_for_register y r) continuation ∙ h.quiet q r none out;
     }

@@ -23,18 +23,17 @@ use Rattle.loose.specs.Loose.{of_class, updates_of_class, has_earlier_of_class, 
 use Rattle.loose.proofs.ClassLists.{alike_in-same, class_taken, find_first, first_taken}
 use Rattle.loose.proofs.ClassStates.{states_in-schedule_all, states_in-schedule_wait}
 use Rattle.loose.proofs.LooseSteps.{to_loose}
-use Rattle.phases.specs.Phase.{IsActive, Block, IsBlock, IsConsistent, continuation_of, waits_for_register, IsOutput}
+use Rattle.phases.specs.Phase.{IsActive, Block, IsBlock, IsConsistent, StandsSince, continuation_of, waits_for_register, IsOutput}
 use Rattle.phases.proofs.Events.{active_at, taken_other, taken_update, stands_taken}
-use Rattle.phases.proofs.Members.{Standing}
 use Rattle.loosephases.specs.Held.{KeepsOffHeld, OthersKeepOff, TakesOther}
 use Rattle.loosephases.proofs.Beside.{bare, Beside, Together, cone_before, one_together, all_together}
 
 -- what an event that no member has leads to from both
 
-abbrev pub Answered : (ℕ → ℕ) → Design → List ℕ → (ℕ → Block) → State → Effect → Type 0
-Answered class design members block u f =
+abbrev pub Answered : (ℕ → ℕ) → Design → State → List ℕ → (ℕ → Block) → State → Effect → Type 0
+Answered class design start members block u f =
     (entry : Entry) × (g : Effect) × TakesOther u members entry × (loose_step class design u entry ≡ Some g) × (f.lines ≡ g.lines)
-    × Together class design members block f.state g.state
+    × Together class design start members block f.state g.state
 
 -- it is taken
 
@@ -45,9 +44,9 @@ apart_from members p q true is none member =
     cc
 apart_from members p q false is none member = is
 
-evaluation_taken : (class : ℕ → ℕ) (design : Design) (members : List ℕ) (block : ℕ → Block) (t u : State) (n m p : ℕ) → IsInOrder t → IsInOrder u → action_in t.active n ≡ Some (Evaluate p)
-    → action_in u.active m ≡ Some (Evaluate p) → contains members p ≡ false → Together class design members block t u → Together class design members block (taking n t) (taking m u)
-evaluation_taken class design members block t u n m p i j at_n at_m none h =
+evaluation_taken : (class : ℕ → ℕ) (design : Design) (start : State) (members : List ℕ) (block : ℕ → Block) (t u : State) (n m p : ℕ) → IsInOrder t → IsInOrder u → action_in t.active n ≡ Some (Evaluate p)
+    → action_in u.active m ≡ Some (Evaluate p) → contains members p ≡ false → Together class design start members block t u → Together class design start members block (taking n t) (taking m u)
+evaluation_taken class design start members block t u n m p i j at_n at_m none h =
     let b : Beside class members block t u = h.beside in
     let same : (q : ℕ) → contains members q ≡ true → evaluations_in q (without n t.active) ≡ evaluations_in q t.active =
     λ q member. taken_other t n p q t.next_event i at_n (apart_from members p q (p == q) refl none member) in
@@ -69,8 +68,8 @@ evaluation_taken class design members block t u n m p i j at_n at_m none h =
         updates = λ k.
             ap (of_class class k) (sym (updates_left n p 0 t.next_event t.active i.active at_n)) ∙ b.updates k ∙ ap (of_class class k) (updates_left m p 0 u.next_event u.active j.active at_m);
       };
-      here = λ q member. stands_taken design t n q (block q) (same q member) (h.here q member);
-      there = λ q member. stands_taken design u m q (block q) (same' q member) (h.there q member);
+      here = λ q member. stands_taken design start t n q (block q) (same q member) (h.here q member);
+      there = λ q member. stands_taken design start u m q (block q) (same' q member) (h.there q member);
       quiet = h.quiet;
     }
 
@@ -78,10 +77,10 @@ others_same : (w : ℕ × Vector) (xs ys : List (ℕ × Vector)) (b : Bool) → 
 others_same w xs ys true h = cc
 others_same w xs ys false h = h
 
-update_taken : (class : ℕ → ℕ) (design : Design) (members : List ℕ) (block : ℕ → Block) (t u : State) (n m r : ℕ) (v : Vector) → IsInOrder t → IsInOrder u → action_in t.active n ≡ Some (Action.Update r v)
+update_taken : (class : ℕ → ℕ) (design : Design) (start : State) (members : List ℕ) (block : ℕ → Block) (t u : State) (n m r : ℕ) (v : Vector) → IsInOrder t → IsInOrder u → action_in t.active n ≡ Some (Action.Update r v)
     → action_in u.active m ≡ Some (Action.Update r v) → has_earlier_of_class class (class r) t.active n ≡ false → has_earlier_of_class class (class r) u.active m ≡ false
-    → Together class design members block t u → Together class design members block (taking n t) (taking m u)
-update_taken class design members block t u n m r v i j at_n at_m first_n first_m h =
+    → Together class design start members block t u → Together class design start members block (taking n t) (taking m u)
+update_taken class design start members block t u n m r v i j at_n at_m first_n first_m h =
     let b : Beside class members block t u = h.beside in
     let same : (q : ℕ) → evaluations_in q (without n t.active) ≡ evaluations_in q t.active = λ q. taken_update t n r q v i at_n in
     let same' : (q : ℕ) → evaluations_in q (without m u.active) ≡ evaluations_in q u.active = λ q. taken_update u m r q v j at_m in
@@ -99,8 +98,8 @@ update_taken class design members block t u n m r v i j at_n at_m first_n first_
             others_same (r, v) (updates_of_class class k (without n t.active)) (updates_of_class class k (without m u.active)) (class r == k)
             (sym (class_taken class k n r 0 t.next_event v t.active i.active at_n first_n) ∙ b.updates k ∙ class_taken class k m r 0 u.next_event v u.active j.active at_m first_m);
       };
-      here = λ q member. stands_taken design t n q (block q) (same q) (h.here q member);
-      there = λ q member. stands_taken design u m q (block q) (same' q) (h.there q member);
+      here = λ q member. stands_taken design start t n q (block q) (same q) (h.here q member);
+      there = λ q member. stands_taken design start u m q (block q) (same' q) (h.there q member);
       quiet = h.quiet;
     }
 
@@ -205,11 +204,22 @@ consistent_moved design x f q b store time consistent turn is =
     ap (λ a. short_turn design q b.rest a x.time) (sym store) ∙ ap (λ now. short_turn design q b.rest f.store now) (sym time) ∙ is in
     ap (λ a. all_given a turn.writes) store ∙ consistent turn was ∙ sym store
 
-pub stands_moved : (design : Design) (x f : State) (q : ℕ) (b : Block) → f.store ≡ x.store → f.time ≡ x.time → evaluations_in q f.active ≡ evaluations_in q x.active
-    → continuation_of f q ≡ continuation_of x q → Standing design x q b → Standing design f q b
-stands_moved design x f q b store time evaluations same (inl (one, continuation)) = inl (evaluations ∙ one, same ∙ continuation)
-stands_moved design x f q b store time evaluations same (inr (none, continuation, consistent)) =
-    inr (evaluations ∙ none, same ∙ continuation, consistent_moved design x f q b store time consistent)
+pub stands_moved : (design : Design) (start x f : State) (q : ℕ) (b : Block) → f.store ≡ x.store → f.time ≡ x.time → evaluations_in q f.active ≡ evaluations_in q x.active
+    → continuation_of f q ≡ continuation_of x q → StandsSince design start x q b → StandsSince design start f q b
+stands_moved design start x f q b store time evaluations same (inl (one, continuation)) = inl (evaluations ∙ one, same ∙ continuation)
+stands_moved design start x f q b store time evaluations same (inr (inl (none, continuation, consistent))) =
+    inr (inl (evaluations ∙ none, same ∙ continuation, consistent_moved design x f q b store time consistent))
+stands_moved design start x f q b store time evaluations same (inr (inr h)) =
+    inr
+    (inr
+    (record {
+      waits = (evaluations ∙ h.waits.0, same ∙ h.waits.1);
+      waited = h.waited;
+      time = time ∙ h.time;
+      registers = ap length store ∙ h.registers;
+      inputs = λ r there. h.inputs r there ∙ ap (λ a. value_of a r) (sym store);
+      outputs = λ r there. h.outputs r there ∙ ap (λ a. value_of a r) (sym store);
+    }))
 
 pub not_one : (p q : ℕ) → (p == q) ≡ false → q ≢ p
 not_one p q is same =
@@ -251,38 +261,38 @@ goes_on_beside class members block x y a b p t h (time, store, processes, active
       updates = λ k. ap (updates_of_class class k) active ∙ h.updates k ∙ ap (updates_of_class class k) (sym active');
     }
 
-member_stays : (design : Design) (members : List ℕ) (block : ℕ → Block) (x a : State) (p q : ℕ) (t : turns.Turn) → contains members p ≡ false → contains members q ≡ true → Keeps x a → Standing design x q (block q)
-    → Standing design (with_continuation p t a) q (block q)
-member_stays design members block x a p q t none member (time, store, processes, active) h =
+member_stays : (design : Design) (start : State) (members : List ℕ) (block : ℕ → Block) (x a : State) (p q : ℕ) (t : turns.Turn) → contains members p ≡ false → contains members q ≡ true → Keeps x a → StandsSince design start x q (block q)
+    → StandsSince design start (with_continuation p t a) q (block q)
+member_stays design start members block x a p q t none member (time, store, processes, active) h =
     let other : q ≢ p = not_one p q (apart_from members p q (p == q) refl none member) in
-    stands_moved design x (with_continuation p t a) q (block q) store time (ap (evaluations_in q) active)
+    stands_moved design start x (with_continuation p t a) q (block q) store time (ap (evaluations_in q) active)
     (get_or-set_other a.processes p q (continuation_after t) nobody other ∙ ap (λ ps. slice_index_or ps q nobody) processes) h
 
-goes_on_together : (class : ℕ → ℕ) (design : Design) (members : List ℕ) (block : ℕ → Block) (x y a b : State) (p : ℕ) (t : turns.Turn) → contains members p ≡ false
-    → ((r : ℕ) → IsOutput members block r → waits_for_register (continuation_after t) r ≡ false) → Together class design members block x y → Keeps x a → Keeps y b → AlikeIn class (bare a) (bare b)
-    → Together class design members block (with_continuation p t a) (with_continuation p t b)
-goes_on_together class design members block x y a b p t none waits h keeps keeps' rest =
+goes_on_together : (class : ℕ → ℕ) (design : Design) (start : State) (members : List ℕ) (block : ℕ → Block) (x y a b : State) (p : ℕ) (t : turns.Turn) → contains members p ≡ false
+    → ((r : ℕ) → IsOutput members block r → waits_for_register (continuation_after t) r ≡ false) → Together class design start members block x y → Keeps x a → Keeps y b → AlikeIn class (bare a) (bare b)
+    → Together class design start members block (with_continuation p t a) (with_continuation p t b)
+goes_on_together class design start members block x y a b p t none waits h keeps keeps' rest =
     record {
       beside = goes_on_beside class members block x y a b p t h.beside keeps keeps' rest;
-      here = λ q member. member_stays design members block x a p q t none member keeps (h.here q member);
-      there = λ q member. member_stays design members block y b p q t none member keeps' (h.there q member);
+      here = λ q member. member_stays design start members block x a p q t none member keeps (h.here q member);
+      there = λ q member. member_stays design start members block y b p q t none member keeps' (h.there q member);
       quiet = λ q r other out.
           set_quiet a.processes p q r (continuation_after t) (ap (λ ps. waits_for_register (slice_index_or ps q nobody) r) keeps.2 ∙ h.quiet q r other out) (waits r out);
     }
 
 -- a turn
 
-turned_together : (class : ℕ → ℕ) (design : Design) (members : List ℕ) (block : ℕ → Block) (t u : State) (n m p : ℕ) (turn : turns.Turn) → IsInOrder t → IsInOrder u
+turned_together : (class : ℕ → ℕ) (design : Design) (start : State) (members : List ℕ) (block : ℕ → Block) (t u : State) (n m p : ℕ) (turn : turns.Turn) → IsInOrder t → IsInOrder u
     → ((q : ℕ) → contains members q ≡ true → IsBlock design q (block q)) → action_in t.active n ≡ Some (Evaluate p) → action_in u.active m ≡ Some (Evaluate p) → contains members p ≡ false
-    → KeepsOffHeld u members block turn → Together class design members block t u → Together class design members block (turned t n p turn) (turned u m p turn)
-turned_together class design members block t u n m p turn i j blocks at_n at_m none keeps h =
+    → KeepsOffHeld u members block turn → Together class design start members block t u → Together class design start members block (turned t n p turn) (turned u m p turn)
+turned_together class design start members block t u n m p turn i j blocks at_n at_m none keeps h =
     let x : State = change_all (taking n t) turn.writes in
     let y : State = change_all (taking m u) turn.writes in
-    let taken : Together class design members block (taking n t) (taking m u) = evaluation_taken class design members block t u n m p i j at_n at_m none h in
-    let written : Together class design members block x y = all_together class design members block turn.writes (taking n t) (taking m u) blocks keeps.writes taken in
+    let taken : Together class design start members block (taking n t) (taking m u) = evaluation_taken class design start members block t u n m p i j at_n at_m none h in
+    let written : Together class design start members block x y = all_together class design start members block turn.writes (taking n t) (taking m u) blocks keeps.writes taken in
     let i' : IsInOrder x = in_order-change_all (taking n t) turn.writes (in_order-taking n t i) in
     let j' : IsInOrder y = in_order-change_all (taking m u) turn.writes (in_order-taking m u j) in
-    goes_on_together class design members block x y (schedule_wait p turn.wait (schedule_all x turn.nbas)) (schedule_wait p turn.wait (schedule_all y turn.nbas)) p turn none keeps.waits written
+    goes_on_together class design start members block x y (schedule_wait p turn.wait (schedule_all x turn.nbas)) (schedule_wait p turn.wait (schedule_all y turn.nbas)) p turn none keeps.waits written
     (made_keeps x p turn) (made_keeps y p turn) (made_rest class p turn x y i' j' written.beside.rest)
 
 -- a register is an output, or it is none
@@ -328,10 +338,10 @@ same_turn class design members block t u p turn b none keeps is =
     ap (λ (x : Continuation). short_turn design p x.remainder t.store t.time) (b.others p none).0
     ∙ ap (λ now. short_turn design p (remainder_of u p) t.store now) b.rest.time ∙ frame
 
-pub other_turn : (class : ℕ → ℕ) (design : Design) (members : List ℕ) (block : ℕ → Block) (t u : State) (n p : ℕ) (turn : turns.Turn) → IsInOrder t → IsInOrder u → t.finished ≡ false
-    → ((q : ℕ) → contains members q ≡ true → IsBlock design q (block q)) → OthersKeepOff design u members block → Together class design members block t u → contains members p ≡ false
-    → action_in t.active n ≡ Some (Evaluate p) → turn_of design t p ≡ Some turn → Answered class design members block u (turn_effect t n p turn) × (turn.finish ≡ false)
-other_turn class design members block t u n p turn i j going blocks keep h none at is =
+pub other_turn : (class : ℕ → ℕ) (design : Design) (start : State) (members : List ℕ) (block : ℕ → Block) (t u : State) (n p : ℕ) (turn : turns.Turn) → IsInOrder t → IsInOrder u → t.finished ≡ false
+    → ((q : ℕ) → contains members q ≡ true → IsBlock design q (block q)) → OthersKeepOff design u members block → Together class design start members block t u → contains members p ≡ false
+    → action_in t.active n ≡ Some (Evaluate p) → turn_of design t p ≡ Some turn → Answered class design start members block u (turn_effect t n p turn) × (turn.finish ≡ false)
+other_turn class design start members block t u n p turn i j going blocks keep h none at is =
     let b : Beside class members block t u = h.beside in
     let some : 1 ≤ evaluations_in p u.active = omega (arith, active_at t n p i at, (b.others p none).1) in
     let (m, at_m) = find_evaluation p 0 u.next_event u.active j.active some in
@@ -347,27 +357,27 @@ other_turn class design members block t u n p turn i j going blocks keep h none 
         (p, at_m, none),
         turn_step design u m p turn going' at_m at_u',
         refl,
-        turned_together class design members block t u n m p turn i j blocks at at_m none keeps' h,
+        turned_together class design start members block t u n m p turn i j blocks at at_m none keeps' h,
       ),
       keeps'.goes_on,
     )
 
 -- an update
 
-pub other_update : (class : ℕ → ℕ) (design : Design) (members : List ℕ) (block : ℕ → Block) (t u : State) (n r : ℕ) (v : Vector) → IsInOrder t → IsInOrder u → t.finished ≡ false
-    → ((q : ℕ) → contains members q ≡ true → IsBlock design q (block q)) → Together class design members block t u → (IsOutput members block r → ⊥) → action_in t.active n ≡ Some (Action.Update r v)
-    → has_earlier_of_class class (class r) t.active n ≡ false → Answered class design members block u (update_effect t n r v)
-other_update class design members block t u n r v i j going blocks h none at first =
+pub other_update : (class : ℕ → ℕ) (design : Design) (start : State) (members : List ℕ) (block : ℕ → Block) (t u : State) (n r : ℕ) (v : Vector) → IsInOrder t → IsInOrder u → t.finished ≡ false
+    → ((q : ℕ) → contains members q ≡ true → IsBlock design q (block q)) → Together class design start members block t u → (IsOutput members block r → ⊥) → action_in t.active n ≡ Some (Action.Update r v)
+    → has_earlier_of_class class (class r) t.active n ≡ false → Answered class design start members block u (update_effect t n r v)
+other_update class design start members block t u n r v i j going blocks h none at first =
     let b : Beside class members block t u = h.beside in
     let there : updates_of_class class (class r) u.active ≡ (r, v) ∷ updates_of_class class (class r) (without n t.active) =
     sym (b.updates (class r)) ∙ first_taken class (class r) n r 0 t.next_event v t.active refl i.active at first in
     let (m, at_m, first_m) = find_first class (class r) r 0 u.next_event v u.active (updates_of_class class (class r) (without n t.active)) j.active there in
-    let taken : Together class design members block (taking n t) (taking m u) = update_taken class design members block t u n m r v i j at at_m first first_m h in
+    let taken : Together class design start members block (taking n t) (taking m u) = update_taken class design start members block t u n m r v i j at at_m first first_m h in
     let going' : u.finished ≡ false = sym b.rest.finished ∙ going in (
       Update m,
       update_effect u m r v,
       tt,
       to_loose class design u (Update m) (update_effect u m r v) (going', (r, v, at_m, first_m, refl)),
       refl,
-      one_together class design members block (taking n t) (taking m u) r v blocks none taken,
+      one_together class design start members block (taking n t) (taking m u) r v blocks none taken,
     )

@@ -14,7 +14,7 @@ use Rattle.model.specs.Runs.{Effect, silent, has_any, HasLongTurn, joined, turn_
 use Rattle.model.specs.Laws.{evaluations_in}
 use Rattle.model.specs.Texts.{EndsHere}
 use Rattle.orders.specs.Alike.{Alike, IsInOrder}
-use Rattle.orders.proofs.EventLists.{both_ways, alike-same}
+use Rattle.orders.proofs.EventLists.{both_ways}
 use Rattle.phases.proofs.Events.{active_at}
 use Rattle.orders.proofs.GoingOn.{goes_on}
 use Rattle.orders.proofs.SearchLaws.{then_some}
@@ -26,8 +26,8 @@ use Rattle.loose.proofs.ClassStates.{alike_is_alike_in, states_in-trans}
 use Rattle.loose.proofs.LooseSteps.{from_loose, loose_step_keeps_order, loose_run_keeps_order}
 use Rattle.phases.specs.Phase.{Block, IsTurnPending, IsPhase, TakesEvent}
 use Rattle.phases.proofs.Members.{Standing}
-use Rattle.phases.proofs.PhaseSteps.{Stays}
-use Rattle.phases.proofs.PhaseRuns.{Runs, AlikeButActive, ends_alike, none_in}
+use Rattle.phases.proofs.PhaseSteps.{Stays, AllStand, all_first}
+use Rattle.phases.proofs.PhaseRuns.{Runs, ends_alike, none_in}
 use Rattle.loosephases.specs.LoosePhase.{EndsPhaseLoosely, LoosePhaseEndsInOneNode, LoosePhaseIsPrefix, IsLooselyVisited, LoosePhaseCovers}
 use Rattle.loosephases.proofs.LoosePhaseSteps.{loose_phase_steps}
 
@@ -55,30 +55,32 @@ stays_on members block s f g h i =
 
 -- a loose run in a phase
 
-pub loose_phase_runs : (class : ℕ → ℕ) (design : Design) (members : List ℕ) (block : ℕ → Block) (rank : ℕ → ℕ) (entries : List Entry) (e f : Effect) → IsInOrder e.state
-    → IsPhase design e.state members block rank → All TakesEvent entries → loose_run_from class design e entries ≡ Some f → Runs design members block rank e f
-loose_phase_runs class design members block rank [] e f order phase takes is =
+pub loose_phase_runs : (class : ℕ → ℕ) (design : Design) (members : List ℕ) (block : ℕ → Block) (rank : ℕ → ℕ) (start : State) (entries : List Entry) (e f : Effect) → IsInOrder e.state
+    → IsPhase design e.state members block rank → AllStand design members block start e.state → All TakesEvent entries → loose_run_from class design e entries ≡ Some f → Runs design members block rank start e f
+loose_phase_runs class design members block rank start [] e f order phase stand takes is =
     let same : e ≡ f = cc in
-    subst (λ x. Runs design members block rank e x) same (refl, order, phase, stays_same members block e.state)
-loose_phase_runs class design members block rank (entry ∷ entries) e f order phase takes is =
+    subst (λ x. Runs design members block rank start e x) same (refl, order, phase, stays_same members block e.state, stand)
+loose_phase_runs class design members block rank start (entry ∷ entries) e f order phase stand takes is =
     option_and_then_some (λ x. loose_run_from class design (joined e x) entries) (loose_step class design e.state entry) f is
     (λ g at_g later.
-    let (lines, phase', stays) = loose_phase_steps class design members block rank e.state entry g order phase (All-head TakesEvent entry entries takes) at_g in
+    let (lines, phase', stays, stand') = loose_phase_steps class design members block rank start e.state entry g order phase stand (All-head TakesEvent entry entries takes) at_g in
     let order' : IsInOrder g.state = loose_step_keeps_order class design e.state entry g order at_g in
-    let (lines', order'', phase'', stays') = loose_phase_runs class design members block rank entries (joined e g) f order' phase' (All-tail TakesEvent entry entries takes) later in
-    (lines' ∙ ap (λ ls. e.lines ++ ls) lines ∙ append-none e.lines, order'', phase'', stays_on members block e.state g.state f.state stays stays'))
+    let (lines', order'', phase'', stays', stand'') = loose_phase_runs class design members block rank start entries (joined e g) f order' phase' stand' (All-tail TakesEvent entry entries takes) later in
+    (lines' ∙ ap (λ ls. e.lines ++ ls) lines ∙ append-none e.lines, order'', phase'', stays_on members block e.state g.state f.state stays stays', stand''))
+
+-- from its begin on
+pub phase_runs_from : (class : ℕ → ℕ) (design : Design) (members : List ℕ) (block : ℕ → Block) (rank : ℕ → ℕ) (entries : List Entry) (e f : Effect) → IsInOrder e.state
+    → IsPhase design e.state members block rank → All TakesEvent entries → loose_run_from class design e entries ≡ Some f → Runs design members block rank e.state e f
+phase_runs_from class design members block rank entries e f order phase takes is =
+    loose_phase_runs class design members block rank e.state entries e f order phase (all_first design members block rank e.state phase) takes is
 
 -- at the end there is one node
 
-same_but_active : (s : State) → AlikeButActive s s
-same_but_active s =
-    record { time = refl; store = refl; processes = refl; active = record { updates = λ r. refl; evaluations = λ p. refl }; inactive = alike-same s.inactive; nonblocking = alike-same s.nonblocking; monitor = refl; future_inactive = record { times = refl; due = λ time. alike-same _ }; future_nonblocking = record { times = refl; due = λ time. alike-same _ }; finished = refl }
-
 pub loose_phase_ends_in_one_node : LoosePhaseEndsInOneNode
-loose_phase_ends_in_one_node class design members block rank e f g entries others order phase (takes, goes, over) (takes', goes', over') =
-    let (lines, order_f, phase_f, stays_f) = loose_phase_runs class design members block rank entries e f order phase takes goes in
-    let (lines', order_g, phase_g, stays_g) = loose_phase_runs class design members block rank others e g order phase takes' goes' in
-    let alike : Alike f.state g.state = ends_alike design members block rank e.state e.state f.state g.state (same_but_active e.state) phase_f phase_g stays_f stays_g over over' in
+loose_phase_ends_in_one_node class design members block rank e f g entries others order phase (takes, goes, over) (takes', goes', over') settle =
+    let (lines, order_f, phase_f, stays_f, stand_f) = phase_runs_from class design members block rank entries e f order phase takes goes in
+    let (lines', order_g, phase_g, stays_g, stand_g) = phase_runs_from class design members block rank others e g order phase takes' goes' in
+    let alike : Alike f.state g.state = ends_alike design members block rank e.state f.state g.state phase_f phase_g stays_f stays_g stand_f stand_g settle over over' in
     (lines, (lines ∙ sym lines', alike), (lines ∙ sym lines', alike_is_alike_in class f.state g.state alike))
 
 -- a run from a phase comes to its end
@@ -95,9 +97,9 @@ no_long design members block rank s p order phase (n, at, long) =
         let is : turn_of design s p ≡ Some t = ap (λ (x : Continuation). short_turn design p x.remainder s.store s.time) continuation ∙ at_t in
         cc
 
-    short : (p : ℕ) → contains members p ≡ true → Standing design s p (block p) → 1 ≤ evaluations_in p s.active → turn_of design s p ≡ None → ⊥
+    short : (p : ℕ) → contains members p ≡ true → Standing s p (block p) → 1 ≤ evaluations_in p s.active → turn_of design s p ≡ None → ⊥
     short p member (inl h) active long = found p member h long
-    short p member (inr (none, continuation, consistent)) active long = omega (arith, active, none)
+    short p member (inr (none, continuation)) active long = omega (arith, active, none)
 
 pub takes_event : (class : ℕ → ℕ) (design : Design) (s : State) (x : Event) (xs : List Event) (entry : Entry) (f : Effect) → s.active ≡ x ∷ xs → IsPermittedLoosely class design s entry f → TakesEvent entry
 takes_event class design s x xs (Entry.Turn n) f is h = tt
@@ -135,7 +137,7 @@ passes class design limits members block rank (x ∷ xs) (entry ∷ entries) e g
     option_and_then_some (λ y. loose_run_from class design (joined e y) entries) (loose_step class design e.state entry) g is
     (λ f at_f later.
     let takes : TakesEvent entry = takes_event class design e.state x xs entry f active (from_loose class design e.state entry f at_f).1 in
-    let (lines, phase', stays) = loose_phase_steps class design members block rank e.state entry f order phase takes at_f in
+    let (lines, phase', stays, stand) = loose_phase_steps class design members block rank e.state e.state entry f order phase (all_first design members block rank e.state phase) takes at_f in
     let order' : IsInOrder f.state = loose_step_keeps_order class design e.state entry f order at_f in
     passes_more class design e f g entry entries takes at_f (passes class design limits members block rank f.state.active entries (joined e f) g end refl order' phase' later ends))
 
@@ -170,8 +172,8 @@ loosely_visited_too class nodes e f (lines, alike) (v, there, (lines', alike')) 
     (v, there, (lines ∙ lines', states_in-trans class e.state f.state v.state alike alike'))
 
 pub loose_phase_covers : LoosePhaseCovers
-loose_phase_covers class design limits nodes members block rank e f entries (journal, reached) phase some ends visited entry others g end goes timely over =
+loose_phase_covers class design limits nodes members block rank e f entries (journal, reached) phase some ends settle visited entry others g end goes timely over =
     let order : IsInOrder e.state = loose_run_keeps_order class design (silent (start design)) e journal (start_is_in_order design) reached in
     let (before, after, k, split, ends_k, rest) = loose_phase_is_prefix class design limits members block rank e g (entry ∷ others) end order phase goes over in
-    let (lines, strict, one) = loose_phase_ends_in_one_node class design members block rank e k f before entries order phase ends_k ends in
+    let (lines, strict, one) = loose_phase_ends_in_one_node class design members block rank e k f before entries order phase ends_k ends settle in
     (before, after, k, not_empty class design before e k ends_k (not_begun class design entries e f some ends), split, ends_k.1, loosely_visited_too class nodes k f one visited)

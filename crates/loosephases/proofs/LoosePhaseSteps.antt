@@ -18,7 +18,7 @@ use Rattle.phases.specs.Phase.{Block, updated_in, IsPhase, TakesEvent}
 use Rattle.phases.proofs.Changes.{Changed, changed}
 use Rattle.phases.proofs.Members.{stands_changed, unmoved}
 use Rattle.phases.proofs.Events.{one_unmoved, taken_update, stands_taken}
-use Rattle.phases.proofs.PhaseSteps.{Stays, Steps, phase_after, phase_steps}
+use Rattle.phases.proofs.PhaseSteps.{Stays, AllStand, Steps, phase_after, phase_steps}
 use Rattle.loosephases.proofs.UpdatesTaken.{register_taken, listed_same}
 
 -- the updates of each register stand as if an update stood first
@@ -62,9 +62,9 @@ update_stays design members block rank s n r v order phase at first =
           ∙ ap (λ a. value_of a q) (sym (stores_same s.store (updates_in s.active) ((r, v) ∷ updates_in (without n s.active)) first));
     }
 
-update_steps : (design : Design) (members : List ℕ) (block : ℕ → Block) (rank : ℕ → ℕ) (s : State) (n r : ℕ) (v : Vector) → IsInOrder s → IsPhase design s members block rank
-    → action_in s.active n ≡ Some (Action.Update r v) → IsFirstOfIts s n r v → Steps design members block rank s (update_effect s n r v)
-update_steps design members block rank s n r v order phase at first =
+update_steps : (design : Design) (members : List ℕ) (block : ℕ → Block) (rank : ℕ → ℕ) (start s : State) (n r : ℕ) (v : Vector) → IsInOrder s → IsPhase design s members block rank
+    → AllStand design members block start s → action_in s.active n ≡ Some (Action.Update r v) → IsFirstOfIts s n r v → Steps design members block rank start s (update_effect s n r v)
+update_steps design members block rank start s n r v order phase stand at first =
     let x : State = updated s n r v in
     let c : Changed (taking n s) r v x = changed (taking n s) r v in
     let stays : Stays members block s x = update_stays design members block rank s n r v order phase at first in
@@ -73,22 +73,21 @@ update_steps design members block rank s n r v order phase at first =
     λ q there.
     let later : contains (map (λ (u : ℕ × Vector). u.0) (updates_in (without n s.active))) q ≡ true = ap (λ us. contains (map (λ (u : ℕ × Vector). u.0) us) q) (sym c.updates) ∙ there in
     listed_same q (updates_in s.active) ((r, v) ∷ updates_in (without n s.active)) (first q)
-    ∙ or_right (r == q) (contains (map (λ (u : ℕ × Vector). u.0) (updates_in (without n s.active))) q) later in (
-      refl,
-      phase_after design members block rank s x phase stays fewer
-          (λ p member. stands_changed design (taking n s) x r v p (block p) (phase.blocks p member) (phase.updates r touched p member) c
-          (stands_taken design s n p (block p) (taken_update s n r p v order at) (phase.stands p member))),
-      stays,
-    )
+    ∙ or_right (r == q) (contains (map (λ (u : ℕ × Vector). u.0) (updates_in (without n s.active))) q) later in
+    let stand' : AllStand design members block start x =
+    λ p member.
+    stands_changed design start (taking n s) x r v p (block p) (phase.blocks p member) (phase.updates r touched p member) c
+    (stands_taken design start s n p (block p) (taken_update s n r p v order at) (stand p member)) in
+    (refl, phase_after design members block rank start s x phase stays fewer stand', stays, stand')
 
-pub loose_phase_steps : (class : ℕ → ℕ) (design : Design) (members : List ℕ) (block : ℕ → Block) (rank : ℕ → ℕ) (s : State) (entry : Entry) (f : Effect) → IsInOrder s
-    → IsPhase design s members block rank → TakesEvent entry → loose_step class design s entry ≡ Some f → Steps design members block rank s f
-loose_phase_steps class design members block rank s (Entry.Turn n) f order phase takes is =
-    phase_steps design members block rank s (Entry.Turn n) f order phase takes is
-loose_phase_steps class design members block rank s (Update n) f order phase takes is =
+pub loose_phase_steps : (class : ℕ → ℕ) (design : Design) (members : List ℕ) (block : ℕ → Block) (rank : ℕ → ℕ) (start s : State) (entry : Entry) (f : Effect) → IsInOrder s
+    → IsPhase design s members block rank → AllStand design members block start s → TakesEvent entry → loose_step class design s entry ≡ Some f → Steps design members block rank start s f
+loose_phase_steps class design members block rank start s (Entry.Turn n) f order phase stand takes is =
+    phase_steps design members block rank start s (Entry.Turn n) f order phase stand takes is
+loose_phase_steps class design members block rank start s (Update n) f order phase stand takes is =
     let (going, (r, v, at, first, same)) = from_loose class design s (Update n) f is in
-    rw same (update_steps design members block rank s n r v order phase at (λ q. register_taken class q n r 0 s.next_event v s.active order.active at first))
-loose_phase_steps class design members block rank s ActivateInactive f order phase takes is = absurd takes
-loose_phase_steps class design members block rank s ActivateNba f order phase takes is = absurd takes
-loose_phase_steps class design members block rank s ActivateMonitor f order phase takes is = absurd takes
-loose_phase_steps class design members block rank s (Advance time) f order phase takes is = absurd takes
+    rw same (update_steps design members block rank start s n r v order phase stand at (λ q. register_taken class q n r 0 s.next_event v s.active order.active at first))
+loose_phase_steps class design members block rank start s ActivateInactive f order phase stand takes is = absurd takes
+loose_phase_steps class design members block rank start s ActivateNba f order phase stand takes is = absurd takes
+loose_phase_steps class design members block rank start s ActivateMonitor f order phase stand takes is = absurd takes
+loose_phase_steps class design members block rank start s (Advance time) f order phase stand takes is = absurd takes

@@ -23,11 +23,12 @@ use Rattle.loose.proofs.ClassLists.{own_first, find_first}
 use Rattle.loose.proofs.LooseSteps.{from_loose, to_loose, loose_step_keeps_order}
 use Rattle.phases.specs.Phase.{Block, ComputesOutputs, IsTurnPending, IsPhase, TakesEvent}
 use Rattle.phases.proofs.Members.{Standing}
+use Rattle.phases.proofs.PhaseSteps.{all_first}
 use Rattle.phases.proofs.PhaseRuns.{Runs}
 use Rattle.loosephases.specs.LoosePhase.{EndsPhaseLoosely, TakesDueEvent, LoosePhaseStepsOn, LoosePhaseCompletes}
 use Rattle.loosephases.proofs.Weights.{weight_in, lighter_updated, lighter_turned}
 use Rattle.loosephases.proofs.LoosePhaseSteps.{loose_phase_steps}
-use Rattle.loosephases.proofs.LoosePhaseRuns.{loose_phase_runs}
+use Rattle.loosephases.proofs.LoosePhaseRuns.{phase_runs_from}
 
 -- an event that is due
 
@@ -48,9 +49,9 @@ due_in class s (x ∷ xs) is order some = due_first class s x.0 x.1 xs is order
 
 -- it may be taken
 
-pub pending_at : (design : Design) (s : State) (p : ℕ) (b : Block) → 1 ≤ evaluations_in p s.active → Standing design s p b → IsTurnPending s p b
-pending_at design s p b active (inl h) = h
-pending_at design s p b active (inr (none, continuation, consistent)) = absurd (omega (arith, active, none))
+pub pending_at : (s : State) (p : ℕ) (b : Block) → 1 ≤ evaluations_in p s.active → Standing s p b → IsTurnPending s p b
+pending_at s p b active (inl h) = h
+pending_at s p b active (inr (none, continuation)) = absurd (omega (arith, active, none))
 
 -- the turn of a member
 abbrev MemberTurns : Design → List ℕ → (ℕ → Block) → State → ℕ → Type 0
@@ -62,7 +63,7 @@ member_turns : (design : Design) (members : List ℕ) (block : ℕ → Block) (r
 member_turns design members block rank s n p order phase at =
     let active : 1 ≤ evaluations_in p s.active = active_at s n p order at in
     let member : contains members p ≡ true = phase.inside p active in
-    let pending : IsTurnPending s p (block p) = pending_at design s p (block p) active (phase.stands p member) in
+    let pending : IsTurnPending s p (block p) = pending_at s p (block p) active (phase.stands p member) in
     let (t, at_t, c) = (phase.blocks p member).turns s.store s.time in
     (t, member, pending, c, ap (λ (x : Continuation). short_turn design p x.remainder s.store s.time) pending.1 ∙ at_t)
 
@@ -74,7 +75,7 @@ Leads class design members block rank s entry =
 led : (class : ℕ → ℕ) (design : Design) (members : List ℕ) (block : ℕ → Block) (rank : ℕ → ℕ) (s : State) (entry : Entry) (f : Effect) → IsInOrder s → IsPhase design s members block rank → TakesEvent entry
     → loose_step class design s entry ≡ Some f → Leads class design members block rank s entry
 led class design members block rank s entry f order phase takes is =
-    let (lines, phase', stays) = loose_phase_steps class design members block rank s entry f order phase takes is in
+    let (lines, phase', stays, stand) = loose_phase_steps class design members block rank s s entry f order phase (all_first design members block rank s phase) takes is in
     (f, is, lines, phase')
 
 due_leads : (class : ℕ → ℕ) (design : Design) (members : List ℕ) (block : ℕ → Block) (rank : ℕ → ℕ) (s : State) (entry : Entry) → IsInOrder s → IsPhase design s members block rank → TakesDueEvent class s entry
@@ -147,7 +148,7 @@ bounded class design members block rank most (entry ∷ entries) e f order phase
     option_and_then_some (λ x. loose_run_from class design (joined e x) entries) (loose_step class design e.state entry) f is
     (λ g at_g later.
     let takes' = All-head TakesEvent entry entries takes in
-    let (lines, phase', stays) = loose_phase_steps class design members block rank e.state entry g order phase takes' at_g in
+    let (lines, phase', stays, stand) = loose_phase_steps class design members block rank e.state e.state entry g order phase (all_first design members block rank e.state phase) takes' at_g in
     let less : weight_in members rank most g.state.active < weight_in members rank most e.state.active = lighter class design members block rank most e.state entry g order phase below takes' at_g in
     let rest : length entries ≤ weight_in members rank most g.state.active =
     bounded class design members block rank most entries (joined e g) f (loose_step_keeps_order class design e.state entry g order at_g) phase' below (All-tail TakesEvent entry entries takes) later in
@@ -195,8 +196,8 @@ loose_phase_completes class design members block rank e order phase =
     let (most, below) = highest members rank in (
       weight_in members rank most e.state.active,
       λ entries f takes is.
-          let run : Runs design members block rank e f = loose_phase_runs class design members block rank entries e f order phase takes is in
-          let (lines, order', phase', stays) = run in (
+          let run : Runs design members block rank e.state e f = phase_runs_from class design members block rank entries e f order phase takes is in
+          let (lines, order', phase', stays, stand) = run in (
             bounded class design members block rank most entries e f order phase below takes is,
             lines,
             phase',

@@ -172,9 +172,9 @@ waits_for : (inputs : List ℕ) (r : ℕ) → list_any (λ (t : Trigger). t.1 ==
 waits_for [] r = refl
 waits_for (q ∷ inputs) r = ap (λ b. (q == r) || b) (waits_for inputs r)
 
-pub no_wait : (design : Design) (s : State) (m r : ℕ) (b : Block) → Standing design s m b → contains b.inputs r ≡ false → waits_for_register (continuation_of s m) r ≡ false
-no_wait design s m r b (inl (one, continuation)) none = ap (λ x. waits_for_register x r) continuation
-no_wait design s m r b (inr (idle, continuation, consistent)) none =
+pub no_wait : (s : State) (m r : ℕ) (b : Block) → Standing s m b → contains b.inputs r ≡ false → waits_for_register (continuation_of s m) r ≡ false
+no_wait s m r b (inl (one, continuation)) none = ap (λ x. waits_for_register x r) continuation
+no_wait s m r b (inr (idle, continuation)) none =
     ap (λ x. waits_for_register x r) continuation ∙ waits_for b.inputs r ∙ none
 
 not_input : (design : Design) (members : List ℕ) (block : ℕ → Block) (rank : ℕ → ℕ) (s : State) (p m r : ℕ) (is : Bool) → contains (block m).inputs r ≡ is → IsPhase design s members block rank
@@ -201,7 +201,7 @@ woken_by design members block rank most below s n p m t false true is is' order 
     let other : (p == m) ≡ false = grind (arith, eqb_tells p m, eqb_tells m p, is) in
     let still : Unmoved (taking n s) m (change_all (taking n s) t.writes) =
     all_unmoved (taking n s) t.writes m
-    (λ r wrote. no_wait design s m r (block m) (phase.stands m member') (not_input design members block rank s p m r (contains (block m).inputs r) refl phase member member' (c.writes r wrote) lower)) in
+    (λ r wrote. no_wait s m r (block m) (phase.stands m member') (not_input design members block rank s p m r (contains (block m).inputs r) refl phase member member' (c.writes r wrote) lower)) in
     inr (is, inl (still.1 ∙ taken_other s n p m s.next_event order at other))
 woken_by design members block rank most below s n p m t false false is is' order phase at member member' pending c less height =
     let higher : rank p < rank m = grind (arith, leb_tells (rank m) (rank p), is') in

@@ -14,20 +14,22 @@ use Rattle.orders.specs.Alike.{IsInOrder}
 use Rattle.orders.specs.SearchLaws.{IsOneNode}
 use Rattle.loose.specs.Loose.{has_earlier_of_class, loose_step, loose_run, loose_run_from}
 use Rattle.loose.specs.LooseLaws.{IsOneLooseNode}
-use Rattle.phases.specs.Phase.{Block, IsPhase, TakesEvent}
+use Rattle.phases.specs.Phase.{Block, SettleBetween, IsPhase, TakesEvent}
 
 -- these entries take events loosely up to the end of a phase, at which none is active
 abbrev pub EndsPhaseLoosely : (ℕ → ℕ) → Design → Effect → List Entry → Effect → Type 0
 EndsPhaseLoosely class design e entries f =
     All TakesEvent entries × (loose_run_from class design e entries ≡ Some f) × (f.state.active ≡ [])
 
--- Whichever events of a phase come first in loose runs, at its end nothing was printed, and there is one loose node. It is even one
--- node: a phase makes no updates, and at its end none is active, so no order of updates is left to be forgotten.
+-- Whichever events of a phase come first in loose runs, at its end nothing was printed, and there is one loose node, where its members
+-- settle between its begin and one of its ends. It is even one node: a phase makes no updates, and at its end none is active, so no
+-- order of updates is left to be forgotten.
 abbrev pub LoosePhaseEndsInOneNode : Type 0
 LoosePhaseEndsInOneNode =
     (class : ℕ → ℕ) (design : Design) (members : List ℕ) (block : ℕ → Block) (rank : ℕ → ℕ) (e f g : Effect) (entries others : List Entry)
     → IsInOrder e.state → IsPhase design e.state members block rank → EndsPhaseLoosely class design e entries f
-    → EndsPhaseLoosely class design e others g → (f.lines ≡ e.lines) × IsOneNode f g × IsOneLooseNode class f g
+    → EndsPhaseLoosely class design e others g → SettleBetween design members block e.state g.state
+    → (f.lines ≡ e.lines) × IsOneNode f g × IsOneLooseNode class f g
 
 -- an entry takes an active event that is due loosely: an evaluation, or an update before which none of its class is active
 abbrev pub TakesDueEvent : (ℕ → ℕ) → State → Entry → Type 0
@@ -87,9 +89,11 @@ CoversLoosely class design limits nodes e =
     → (before : List Entry) × (after : List Entry) × (f : Effect) × (before ≢ []) × (before ++ after ≡ entry ∷ entries)
     × (loose_run_from class design e before ≡ Some f) × IsLooselyVisited class nodes f
 
--- One way through a phase is enough: the node at its end covers the loose runs from its begin.
+-- One way through a phase is enough, where the members settle between its begin and its end: the node at its end covers the loose runs
+-- from its begin.
 abbrev pub LoosePhaseCovers : Type 0
 LoosePhaseCovers =
     (class : ℕ → ℕ) (design : Design) (limits : Limits) (nodes : List Effect) (members : List ℕ) (block : ℕ → Block) (rank : ℕ → ℕ)
     (e f : Effect) (entries : List Entry) → IsLooselyReachable class design e → IsPhase design e.state members block rank → entries ≢ []
-    → EndsPhaseLoosely class design e entries f → IsLooselyVisited class nodes f → CoversLoosely class design limits nodes e
+    → EndsPhaseLoosely class design e entries f → SettleBetween design members block e.state f.state → IsLooselyVisited class nodes f
+    → CoversLoosely class design limits nodes e

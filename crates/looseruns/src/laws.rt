@@ -29,7 +29,7 @@ pub fn moves_are_loose_runs()
 {}
 
 /// Whatever the nodes of a search are. It has no code: the laws below are of any nodes.
-pub trait Nodes {
+pub trait AnyNodes {
     /// A node.
     type Node;
 
@@ -39,20 +39,20 @@ pub trait Nodes {
 
 /// Loose runs that come to one loose node go on alike, and a search may keep one of them for both. None prints before its first
 /// transition.
-pub fn alike_loose_runs_serve<N: Nodes>()
+pub fn alike_loose_runs_serve<N: AnyNodes>()
     ensures runs { AlikeLooseRunsServe N.holds }
     ensures held { AlikeHeldRunsAreAlike N.holds }
     ensures silent { LooseRunsBeginSilent N.holds }
 {}
 
 /// What all loose runs show, all lawful journals show, and where no loose run comes to an end, no lawful one does.
-pub fn loose_runs_tell_of_lawful_ones<N: Nodes>()
+pub fn loose_runs_tell_of_lawful_ones<N: AnyNodes>()
     ensures all { AllLooseShownAreAll N.holds }
     ensures endless { LooseEndlessIsEndless N.holds }
 {}
 
 /// Entries that step loosely lead on by their transitions, one after another, from what a node holds to its successors and its ends.
-pub fn loose_steps_lead_on<N: Nodes>()
+pub fn loose_steps_lead_on<N: AnyNodes>()
     ensures none { NoMoveStays }
     ensures step { LooseStepGoesOn }
     ensures ways { LooseWaysGoOn }
@@ -62,7 +62,7 @@ pub fn loose_steps_lead_on<N: Nodes>()
 
 /// Ways cover a loose run where each transition is followed, or where they cover what leads on from a like state. It is covered where the ways to its successors cover it, or each entry that
 /// steps loosely has the transition of one.
-pub fn followed_transitions_cover<N: Nodes>()
+pub fn followed_transitions_cover<N: AnyNodes>()
     ensures moves { FollowedMovesCover }
     ensures state { CoveringMovesCover }
     ensures covering { CoveringLooseIsCovered N.holds }

@@ -23,7 +23,7 @@ use Rattle.regions.specs.declared.queue.Update as queued
 use Rattle.regions.specs.declared.queue.Evaluation.{Evaluation}
 use Rattle.regions.specs.Queue.{update_event, evaluation_event}
 use Rattle.regions.specs.Machine.{IsChange, IsDue}
-use Rattle.loosesteps.specs.Choices.{AreGathered, due_choices, first_of, turn_of}
+use Rattle.loosesteps.specs.Choices.{AreGathered, due_choices, update_transition, evaluation_transition}
 use Rattle.loosesteps.specs.LooselyTaken.{MayBeTaken}
 use Rattle.loosesteps.proofs.FirstOfKind.{behind_one}
 use Rattle.loosesteps.proofs.Gathering.{no_member, one_member, gathered_more}
@@ -40,15 +40,15 @@ active_of us es = map update_event us ++ map evaluation_event es
 -- an active event's transition is among them
 
 abbrev IsAmong : (ℕ → ℕ) → List queued.Update → List Evaluation → Action → Type 0
-IsAmong class us es (Evaluate p) = Contains (map turn_of es) (Process p)
-IsAmong class us es (Action.Update r v) = Contains (map (first_of class) us) (FirstOf (class r))
+IsAmong class us es (Evaluate p) = Contains (map evaluation_transition es) (Process p)
+IsAmong class us es (Action.Update r v) = Contains (map (update_transition class) us) (FirstOf (class r))
 
 more_updates : (class : ℕ → ℕ) (u : queued.Update) (us : List queued.Update) (es : List Evaluation) (a : Action) → IsAmong class us es a → IsAmong class (u ∷ us) es a
 more_updates class u us es (Evaluate p) has = has
-more_updates class u us es (Action.Update r v) has = member_there (first_of class u) (FirstOf (class r)) (map (first_of class) us) has
+more_updates class u us es (Action.Update r v) has = member_there (update_transition class u) (FirstOf (class r)) (map (update_transition class) us) has
 
 more_evaluations : (class : ℕ → ℕ) (e : Evaluation) (us : List queued.Update) (es : List Evaluation) (a : Action) → IsAmong class us es a → IsAmong class us (e ∷ es) a
-more_evaluations class e us es (Evaluate p) has = member_there (turn_of e) (Process p) (map turn_of es) has
+more_evaluations class e us es (Evaluate p) has = member_there (evaluation_transition e) (Process p) (map evaluation_transition es) has
 more_evaluations class e us es (Action.Update r v) has = has
 
 among_here : (class : ℕ → ℕ) (us : List queued.Update) (es : List Evaluation) (a b : Action) (o : Option Action) (here : Bool) → IsAmong class us es b → (if here then Some b else o) ≡ Some a → (o ≡ Some a → IsAmong class us es a) → IsAmong class us es a
@@ -59,10 +59,10 @@ among_here class us es a b o false has at_n later = later at_n
 
 among : (class : ℕ → ℕ) (n : ℕ) (a : Action) (us : List queued.Update) (es : List Evaluation) → action_in (active_of us es) n ≡ Some a → IsAmong class us es a
 among class n a (u ∷ us) es at_n =
-    among_here class (u ∷ us) es a (Action.Update u.register u.value) (action_in (active_of us es) n) (u.number == n) (member_here (first_of class u) (map (first_of class) us)) at_n
+    among_here class (u ∷ us) es a (Action.Update u.register u.value) (action_in (active_of us es) n) (u.number == n) (member_here (update_transition class u) (map (update_transition class) us)) at_n
     (λ later. more_updates class u us es a (among class n a us es later))
 among class n a [] (e ∷ es) at_n =
-    among_here class [] (e ∷ es) a (Evaluate e.process) (action_in (map evaluation_event es) n) (e.number == n) (member_here (turn_of e) (map turn_of es)) at_n
+    among_here class [] (e ∷ es) a (Evaluate e.process) (action_in (map evaluation_event es) n) (e.number == n) (member_here (evaluation_transition e) (map evaluation_transition es)) at_n
     (λ later. more_evaluations class e [] es a (among class n a [] es later))
 among class n a [] [] at_n = cc
 
@@ -74,7 +74,7 @@ HasEvaluation p es = (n : ℕ) × (action_in es n ≡ Some (Evaluate p))
 evaluation_behind : (p from to : ℕ) (e : Event) (es : List Event) → EventsRise (e.0 + 1) es to → HasEvaluation p es → HasEvaluation p (e ∷ es)
 evaluation_behind p from to e es rises (n, at_n) = (n, behind_one n from to (Evaluate p) e es rises at_n)
 
-evaluation_member : (p from to k : ℕ) (us : List queued.Update) (es : List Evaluation) → EventsRise from (active_of us es) to → k < length es → get_or (map turn_of es) k (Process p) ≡ Process p → HasEvaluation p (active_of us es)
+evaluation_member : (p from to k : ℕ) (us : List queued.Update) (es : List Evaluation) → EventsRise from (active_of us es) to → k < length es → get_or (map evaluation_transition es) k (Process p) ≡ Process p → HasEvaluation p (active_of us es)
 evaluation_member p from to k (u ∷ us) es rises below is =
     evaluation_behind p from to (update_event u) (active_of us es) rises.1 (evaluation_member p (u.number + 1) to k us es rises.1 below is)
 evaluation_member p from to k [] [] rises below is = absurd (omega (arith, below))
@@ -106,7 +106,7 @@ first_among class c to es [] rises is some = absurd (some refl)
 first_among class c to es ((r, v) ∷ ws) rises is some =
     (r, v, own_class class c (updates_in es) ws r v is, find_first class c r 0 to v es ws rises is)
 
-some_of_class : (class : ℕ → ℕ) (c : ℕ) (k : ℕ) (us : List queued.Update) (es : List Evaluation) → k < length us → get_or (map (first_of class) us) k (FirstOf c) ≡ FirstOf c → updates_of_class class c (active_of us es) ≢ []
+some_of_class : (class : ℕ → ℕ) (c : ℕ) (k : ℕ) (us : List queued.Update) (es : List Evaluation) → k < length us → get_or (map (update_transition class) us) k (FirstOf c) ≡ FirstOf c → updates_of_class class c (active_of us es) ≢ []
 some_of_class class c k [] es below is = absurd (omega (arith, below))
 some_of_class class c zero (u ∷ us) es below is =
     let same : class u.register ≡ c = cc in
@@ -141,14 +141,14 @@ change_may class s (Advance time) change none = (Advance time, refl, none)
 
 abbrev IsChosen : (ℕ → ℕ) → List queued.Update → List Evaluation → State → LooseTransition → Type 0
 IsChosen class us es s t =
-    (Contains (map (first_of class) us) t ⊎ Contains (map turn_of es) t) ⊎ ((change : Entry) × (t ≡ Change change) × IsChange change × (refusal s change ≡ None))
+    (Contains (map (update_transition class) us) t ⊎ Contains (map evaluation_transition es) t) ⊎ ((change : Entry) × (t ≡ Change change) × IsChange change × (refusal s change ≡ None))
 
 turn_chosen : (class : ℕ → ℕ) (us : List queued.Update) (es : List Evaluation) (s : State) (t : LooseTransition) (o : Option Action) → loose_transition_of_action class o ≡ Some t → turn_refusal o ≡ None
     → ((a : Action) → o ≡ Some a → IsAmong class us es a) → IsChosen class us es s t
 turn_chosen class us es s t None is none has = cc
 turn_chosen class us es s t (Some (Evaluate p)) is none has =
     let same : Process p ≡ t = cc in
-    inl (inr (subst (λ (u : LooseTransition). Contains (map turn_of es) u) same (has (Evaluate p) refl)))
+    inl (inr (subst (λ (u : LooseTransition). Contains (map evaluation_transition es) u) same (has (Evaluate p) refl)))
 turn_chosen class us es s t (Some (Action.Update r v)) is none has = cc
 
 update_chosen : (class : ℕ → ℕ) (us : List queued.Update) (es : List Evaluation) (s : State) (n : ℕ) (t : LooseTransition) (o : Option Action) → loose_transition_of_action class o ≡ Some t → loose_update_refusal class s n o ≡ None
@@ -157,7 +157,7 @@ update_chosen class us es s n t None is none has = cc
 update_chosen class us es s n t (Some (Evaluate p)) is none has = cc
 update_chosen class us es s n t (Some (Action.Update r v)) is none has =
     let same : FirstOf (class r) ≡ t = cc in
-    inl (inl (subst (λ (u : LooseTransition). Contains (map (first_of class) us) u) same (has (Action.Update r v) refl)))
+    inl (inl (subst (λ (u : LooseTransition). Contains (map (update_transition class) us) u) same (has (Action.Update r v) refl)))
 
 change_chosen : (class : ℕ → ℕ) (us : List queued.Update) (es : List Evaluation) (s : State) (change : Entry) (t : LooseTransition) → ◌≡◌ {A = Option LooseTransition} (Some (Change change)) (Some t) → IsChange change → refusal s change ≡ None → IsChosen class us es s t
 change_chosen class us es s change t is changes none =
@@ -178,30 +178,30 @@ chosen class us es s t all (Advance time, is, none) = change_chosen class us es 
 
 -- and what is among them may be taken
 
-update_element : (class : ℕ → ℕ) (us : List queued.Update) (t : LooseTransition) → Contains (map (first_of class) us) t → (c : ℕ) × (t ≡ FirstOf c)
+update_element : (class : ℕ → ℕ) (us : List queued.Update) (t : LooseTransition) → Contains (map (update_transition class) us) t → (c : ℕ) × (t ≡ FirstOf c)
 update_element class [] t has = absurd (no_member t has)
 update_element class (u ∷ us) t (zero, below, is) = (class u.register, sym is)
 update_element class (u ∷ us) t (suc k, below, is) = update_element class us t (k, omega (arith, below), is)
 
-turn_element : (es : List Evaluation) (t : LooseTransition) → Contains (map turn_of es) t → (p : ℕ) × (t ≡ Process p)
+turn_element : (es : List Evaluation) (t : LooseTransition) → Contains (map evaluation_transition es) t → (p : ℕ) × (t ≡ Process p)
 turn_element [] t has = absurd (no_member t has)
 turn_element (e ∷ es) t (zero, below, is) = (e.process, sym is)
 turn_element (e ∷ es) t (suc k, below, is) = turn_element es t (k, omega (arith, below), is)
 
-of_updates : (class : ℕ → ℕ) (us : List queued.Update) (es : List Evaluation) (s : State) (t : LooseTransition) → active_of us es ≡ s.active → s.finished ≡ false → IsInOrder s → Contains (map (first_of class) us) t → MayBeTaken class s t
+of_updates : (class : ℕ → ℕ) (us : List queued.Update) (es : List Evaluation) (s : State) (t : LooseTransition) → active_of us es ≡ s.active → s.finished ≡ false → IsInOrder s → Contains (map (update_transition class) us) t → MayBeTaken class s t
 of_updates class us es s t all going order has =
     let (c, is) = update_element class us t has in
-    let (k, below, there) = subst (λ (u : LooseTransition). Contains (map (first_of class) us) u) is has in
-    let within : k < length us = omega (arith, below, length-map us (first_of class)) in
+    let (k, below, there) = subst (λ (u : LooseTransition). Contains (map (update_transition class) us) u) is has in
+    let within : k < length us = omega (arith, below, length-map us (update_transition class)) in
     let some : updates_of_class class c s.active ≢ [] = subst (λ (events : List Event). updates_of_class class c events ≢ []) all (some_of_class class c k us es within there) in
     subst (λ (u : LooseTransition). MayBeTaken class s u) (sym is)
     (update_may class s c going (first_among class c s.next_event s.active (updates_of_class class c s.active) order.active refl some))
 
-of_evaluations : (class : ℕ → ℕ) (us : List queued.Update) (es : List Evaluation) (s : State) (t : LooseTransition) → active_of us es ≡ s.active → s.finished ≡ false → IsInOrder s → Contains (map turn_of es) t → MayBeTaken class s t
+of_evaluations : (class : ℕ → ℕ) (us : List queued.Update) (es : List Evaluation) (s : State) (t : LooseTransition) → active_of us es ≡ s.active → s.finished ≡ false → IsInOrder s → Contains (map evaluation_transition es) t → MayBeTaken class s t
 of_evaluations class us es s t all going order has =
     let (p, is) = turn_element es t has in
-    let (k, below, there) = subst (λ (u : LooseTransition). Contains (map turn_of es) u) is has in
-    let within : k < length es = omega (arith, below, length-map es turn_of) in
+    let (k, below, there) = subst (λ (u : LooseTransition). Contains (map evaluation_transition es) u) is has in
+    let within : k < length es = omega (arith, below, length-map es evaluation_transition) in
     let rises : EventsRise 0 (active_of us es) s.next_event = subst (λ (events : List Event). EventsRise 0 events s.next_event) (sym all) order.active in
     let member : HasEvaluation p (active_of us es) = evaluation_member p 0 s.next_event k us es rises within there in
     subst (λ (u : LooseTransition). MayBeTaken class s u) (sym is)
@@ -220,17 +220,17 @@ choice_due due change t is same = rw (is, same) (member_here (Change change) [])
 abbrev pub AreChoices : (ℕ → ℕ) → List queued.Update → List Evaluation → List LooseTransition → Type 0
 AreChoices class us es items =
     record {
-      members : (t : LooseTransition) → Contains items t ↔ (Contains (map (first_of class) us) t ⊎ Contains (map turn_of es) t);
+      members : (t : LooseTransition) → Contains items t ↔ (Contains (map (update_transition class) us) t ⊎ Contains (map evaluation_transition es) t);
       once : AllPairs ◌≢◌ items;
     }
 
-pub choices_gathered : (class : ℕ → ℕ) (us : List queued.Update) (es : List Evaluation) (mid items : List LooseTransition) → AreGathered [] (map (first_of class) us) mid → AreGathered mid (map turn_of es) items → AreChoices class us es items
+pub choices_gathered : (class : ℕ → ℕ) (us : List queued.Update) (es : List Evaluation) (mid items : List LooseTransition) → AreGathered [] (map (update_transition class) us) mid → AreGathered mid (map evaluation_transition es) items → AreChoices class us es items
 choices_gathered class us es mid items first second =
-    let both : AreGathered [] (map (first_of class) us ++ map turn_of es) items = gathered_more [] (map (first_of class) us) mid (map turn_of es) items first second in
+    let both : AreGathered [] (map (update_transition class) us ++ map evaluation_transition es) items = gathered_more [] (map (update_transition class) us) mid (map evaluation_transition es) items first second in
     record {
       members = λ t. (
-        λ has. elim ((both.members t).0 has) [ inl bad ↦ absurd (no_member t bad) | inr there ↦ Contains-append_cases (map (first_of class) us) (map turn_of es) t there ],
-        λ has. (both.members t).1 (inr (elim has [ inl there ↦ Contains-append_left (map (first_of class) us) (map turn_of es) t there | inr there ↦ Contains-append_right (map (first_of class) us) (map turn_of es) t there ])),
+        λ has. elim ((both.members t).0 has) [ inl bad ↦ absurd (no_member t bad) | inr there ↦ Contains-append_cases (map (update_transition class) us) (map evaluation_transition es) t there ],
+        λ has. (both.members t).1 (inr (elim has [ inl there ↦ Contains-append_left (map (update_transition class) us) (map evaluation_transition es) t there | inr there ↦ Contains-append_right (map (update_transition class) us) (map evaluation_transition es) t there ])),
       );
       once = both.once (λ i j d less below. absurd (omega (arith, less, below)));
     }

@@ -9,12 +9,12 @@ use Rattle.regions.specs.declared.queue.Update.{Update}
 use Rattle.regions.specs.declared.queue.Evaluation.{Evaluation}
 
 -- the transition of an active update
-abbrev pub first_of : (ℕ → ℕ) → Update → LooseTransition
-first_of class u = FirstOf (class u.register)
+abbrev pub update_transition : (ℕ → ℕ) → Update → LooseTransition
+update_transition class u = FirstOf (class u.register)
 
 -- the transition of an active evaluation
-abbrev pub turn_of : Evaluation → LooseTransition
-turn_of e = Process e.process
+abbrev pub evaluation_transition : Evaluation → LooseTransition
+evaluation_transition e = Process e.process
 
 -- the transition of the change that is due, where one is
 abbrev pub due_choices : Option Entry → List LooseTransition

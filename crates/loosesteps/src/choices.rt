@@ -5,7 +5,7 @@ ghost use Rattle.orders.specs.Alike.{IsInOrder};
 ghost use Rattle.loose.specs.declared.transition.LooseTransition.{LooseTransition};
 ghost use Rattle.regions.specs.Machine.{state_at};
 ghost use Rattle.loose.specs.Classes.{class_in};
-ghost use Rattle.loosesteps.specs.Choices.{AreGathered, due_choices, first_of, turn_of};
+ghost use Rattle.loosesteps.specs.Choices.{AreGathered, due_choices, update_transition, evaluation_transition};
 ghost use Rattle.loosesteps.specs.LooselyTaken.{MayBeTaken};
 
 use crate::steps::class_of;
@@ -35,7 +35,7 @@ fn add_updates(
     updates: &VecDeque<Update>,
     classes: &[u32],
 ) -> Result<(), AllocError>
-    ensures { OnOk result (AreGathered choices.old.items (map (first_of (class_in classes.now)) updates.now.items) choices.new.items) }
+    ensures { OnOk result (AreGathered choices.old.items (map (update_transition (class_in classes.now)) updates.now.items) choices.new.items) }
 {
     for update in updates {
         add_once(
@@ -51,7 +51,7 @@ fn add_evaluations(
     choices: &mut Vec<LooseTransition>,
     evaluations: &VecDeque<Evaluation>,
 ) -> Result<(), AllocError>
-    ensures { OnOk result (AreGathered choices.old.items (map turn_of evaluations.now.items) choices.new.items) }
+    ensures { OnOk result (AreGathered choices.old.items (map evaluation_transition evaluations.now.items) choices.new.items) }
 {
     for evaluation in evaluations {
         add_once(choices, LooseTransition::Process(evaluation.process))?;

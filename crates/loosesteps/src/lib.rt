@@ -16,4 +16,4 @@ mod choices;
 mod steps;
 
 pub use choices::loose_choices;
-pub use steps::{first_evaluation, first_of_class, take_loosely};
+pub use steps::{entry_for, first_evaluation, first_of_class, take_loosely};

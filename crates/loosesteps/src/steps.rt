@@ -98,8 +98,8 @@ fn due_change(machine: &Machine<'_>, change: Entry) -> Result<Entry, Refusal>
     Err(Refusal::NotDue)
 }
 
-// The entry that takes a loose transition, where one is permitted. The first update of a class is brought before the others for it.
-fn entry_for(
+/// The entry that takes a loose transition, where one is permitted. The first update of a class is brought before the others for it.
+pub fn entry_for(
     machine: &mut Machine<'_>,
     classes: &[u32],
     transition: LooseTransition,

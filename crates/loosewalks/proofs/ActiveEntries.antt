@@ -65,7 +65,7 @@ only_change_step class limits s due change is active there timely =
 
 -- the first of what is active
 
-first_action : (n : ℕ) (a : Action) (es : List Event) → action_in ((n, a) ∷ es) n ≡ Some a
+pub first_action : (n : ℕ) (a : Action) (es : List Event) → action_in ((n, a) ∷ es) n ≡ Some a
 first_action n a es = ap (λ (b : Bool). if b then Some a else action_in es n) (eq-eqb n n refl)
 
 -- one event is active: only its entry may be taken
@@ -140,7 +140,7 @@ only_update class limits s u going active =
 
 -- the entries of what is active, by the lists of it
 
-none_of : {X : Type 0} (xs : List X) → length xs ≡ 0 → xs ≡ []
+pub none_of : {X : Type 0} (xs : List X) → length xs ≡ 0 → xs ≡ []
 none_of {X} [] none = refl
 none_of {X} (x ∷ xs) none = absurd (omega (arith, none))
 

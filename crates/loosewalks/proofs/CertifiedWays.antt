@@ -10,7 +10,7 @@ use Rattle.loose.specs.declared.transition.LooseTransition.{LooseTransition}
 use Rattle.loose.specs.Loose.{AlikeIn}
 use Rattle.loose.proofs.ClassStates.{states_in-sym}
 use Rattle.loose.proofs.LooseSteps.{loose_run_keeps_order}
-use Rattle.traces.specs.Traces.{AreMoves, Runs}
+use Rattle.traces.specs.Traces.{AreMoves, IsRunOfMoves}
 use Rattle.traces.specs.Certificates.{IsCertificate}
 use Rattle.footprints.specs.Footprints.{Footprint}
 use Rattle.footprints.specs.Moves.{OrderedState, loose_moves}
@@ -29,9 +29,9 @@ use Rattle.loosewalks.proofs.SoleLooseWays.{alike_stand_for_all}
 -- a run from a state that is alike
 abbrev RunsToo : (ℕ → ℕ) → Design → OrderedState → List (LooseTransition × Footprint) → OrderedState → Type 0
 RunsToo class design s v t =
-    (u : OrderedState) × Runs (loose_moves class design) s v u × AlikeIn class t.0 u.0
+    (u : OrderedState) × IsRunOfMoves (loose_moves class design) s v u × AlikeIn class t.0 u.0
 
-runs_too : (class : ℕ → ℕ) (design : Design) (v : List (LooseTransition × Footprint)) (s r t : OrderedState) → AlikeIn class s.0 r.0 → Runs (loose_moves class design) s v t → RunsToo class design r v t
+runs_too : (class : ℕ → ℕ) (design : Design) (v : List (LooseTransition × Footprint)) (s r t : OrderedState) → AlikeIn class s.0 r.0 → IsRunOfMoves (loose_moves class design) s v t → RunsToo class design r v t
 runs_too class design [] s r t near run = (r, refl, subst (λ (x : OrderedState). AlikeIn class x.0 r.0) run near)
 runs_too class design (x ∷ v) s r t near (m, step, later) =
     let laws : AreMoves (loose_moves class design) = loose_steps_are_moves class design in
@@ -44,7 +44,7 @@ some_active : (n : ℕ) (a : Action) (events : List Event) → action_in events 
 some_active n a [] is = cc
 some_active n a (e ∷ events) is = refl
 
-first_steps : (class : ℕ → ℕ) (design : Design) (s t : OrderedState) (v : List (LooseTransition × Footprint)) → v ≢ [] → Runs (loose_moves class design) s v t → (has_any s.0.active ≡ true) × (s.0.finished ≡ false)
+first_steps : (class : ℕ → ℕ) (design : Design) (s t : OrderedState) (v : List (LooseTransition × Footprint)) → v ≢ [] → IsRunOfMoves (loose_moves class design) s v t → (has_any s.0.active ≡ true) × (s.0.finished ≡ false)
 first_steps class design s t [] some run = absurd (some refl)
 first_steps class design s t (x ∷ v) some (m, (entry, e, step, owner, leads), later) =
     let laws : AreMoves (loose_moves class design) = loose_steps_are_moves class design in
@@ -53,7 +53,7 @@ first_steps class design s t (x ∷ v) some (m, (entry, e, step, owner, leads), 
     (some_active number action s.0.active is, going)
 
 -- from a state that a loose run comes to
-reached_stands : (class : ℕ → ℕ) (design : Design) (limits : Limits) (s : State) (order : IsInOrder s) (t : OrderedState) (v : List (LooseTransition × Footprint)) → v ≢ [] → IsReachedLoosely class design s → Runs (loose_moves class design) (s, order) v t
+reached_stands : (class : ℕ → ℕ) (design : Design) (limits : Limits) (s : State) (order : IsInOrder s) (t : OrderedState) (v : List (LooseTransition × Footprint)) → v ≢ [] → IsReachedLoosely class design s → IsRunOfMoves (loose_moves class design) (s, order) v t
     → AreCertified class design v → NobodyWaits class t.0 → StandsForAllLoosely class design limits s (actors_of v)
 reached_stands class design limits s order t v some come run certified over =
     let first : OrderedState = (s, order) in

@@ -12,14 +12,14 @@ use Rattle.regions.specs.StepLogs.{IsTaken}
 use Rattle.loose.specs.declared.transition.LooseTransition.{LooseTransition}
 use Rattle.loose.specs.Loose.{loose_transition_of}
 use Rattle.loose.proofs.LooseSteps.{step_is_loose, loose_step_keeps_order}
-use Rattle.traces.specs.Traces.{Runs}
+use Rattle.traces.specs.Traces.{IsRunOfMoves}
 use Rattle.footprints.specs.Footprints.{Footprint}
 use Rattle.footprints.specs.FootprintLaws.{IsStepWith}
 use Rattle.footprints.specs.Moves.{OrderedState, IsMove, loose_moves}
 use Rattle.footprints.proofs.AlikeFootprints.{footprint_tells}
 use Rattle.certificates.specs.Notes.{NoteView, TellOfAll, TellsOf}
 use Rattle.certificates.specs.CertificateLaws.{NobodyWaits}
-use Rattle.noted.specs.NotedSteps.{IsNoted}
+use Rattle.noted.specs.NotedSteps.{IsEntryNoted}
 use Rattle.loosewalks.specs.declared.active.NamedEntry.{NamedEntry}
 use Rattle.loosewalks.specs.Sole.{StandsForAllLoosely}
 use Rattle.loosewalks.specs.LooseWalking.{IsEventStep, IsSoleLooseWay}
@@ -29,17 +29,17 @@ use Rattle.loosewalks.proofs.CertifiedWays.{certified_way_stands_for_all}
 
 -- one step more
 
-runs_more : (class : ℕ → ℕ) (design : Design) (w : List (LooseTransition × Footprint)) (s t u : OrderedState) (a : LooseTransition) (f : Footprint) → Runs (loose_moves class design) s w t → IsMove class design t.0 a f u.0 → Runs (loose_moves class design) s (w ++ (a, f) ∷ []) u
+runs_more : (class : ℕ → ℕ) (design : Design) (w : List (LooseTransition × Footprint)) (s t u : OrderedState) (a : LooseTransition) (f : Footprint) → IsRunOfMoves (loose_moves class design) s w t → IsMove class design t.0 a f u.0 → IsRunOfMoves (loose_moves class design) s (w ++ (a, f) ∷ []) u
 runs_more class design [] s t u a f run step = (u, subst (λ (x : OrderedState). IsMove class design x.0 a f u.0) (sym run) step, refl)
 runs_more class design (x ∷ w) s t u a f (m, first, later) step = (m, first, runs_more class design w m t u a f later step)
 
-tell_more : (notes : List NoteView) (w : List (LooseTransition × Footprint)) (note : NoteView) (a : LooseTransition) (f : Footprint) → TellOfAll notes w → a ≡ note.owner → TellsOf note f → TellOfAll (notes ++ note ∷ []) (w ++ (a, f) ∷ [])
+pub tell_more : (notes : List NoteView) (w : List (LooseTransition × Footprint)) (note : NoteView) (a : LooseTransition) (f : Footprint) → TellOfAll notes w → a ≡ note.owner → TellsOf note f → TellOfAll (notes ++ note ∷ []) (w ++ (a, f) ∷ [])
 tell_more [] [] note a f all own tells = (own, tells, tt)
 tell_more [] (x ∷ w) note a f all own tells = absurd all
 tell_more (n ∷ notes) [] note a f all own tells = absurd all
 tell_more (n ∷ notes) (x ∷ w) note a f (first, its, all) own tells = (first, its, tell_more notes w note a f all own tells)
 
-one_transition : (o : Option LooseTransition) (a b : LooseTransition) → o ≡ Some a → o ≡ Some b → a ≡ b
+pub one_transition : (o : Option LooseTransition) (a b : LooseTransition) → o ≡ Some a → o ≡ Some b → a ≡ b
 one_transition o a b is is' = cc
 
 -- what a machine took with its note is a move of the entry's transition, of which the note tells
@@ -50,7 +50,7 @@ record IsNotedMove (class : ℕ → ℕ) (old new : MachineView) (named : NamedE
   owner : named.transition ≡ note.owner
   tells : TellsOf note own
 
-noted_move : (class : ℕ → ℕ) (old new : MachineView) (named : NamedEntry) (note : NoteView) → IsInOrder (state_at old) → loose_transition_of class (state_at old) named.entry ≡ Some named.transition → IsNoted class old.code (state_at old) named.entry note
+noted_move : (class : ℕ → ℕ) (old new : MachineView) (named : NamedEntry) (note : NoteView) → IsInOrder (state_at old) → loose_transition_of class (state_at old) named.entry ≡ Some named.transition → IsEntryNoted class old.code (state_at old) named.entry note
     → IsTaken old.code (state_at old) old.lines named.entry (state_at new) new.lines → IsNotedMove class old new named note
 noted_move class old new named note order its noted taken =
     let design = design_of old.code in
@@ -106,7 +106,7 @@ none_in n a es none is =
 nobody : (class : ℕ → ℕ) (s : State) → s.active ≡ [] → NobodyWaits class s
 nobody class s none actor (n, a, is, own) = none_in n a s.active none is
 
-some_steps : (class : ℕ → ℕ) (design : Design) (s t : OrderedState) (w : List (LooseTransition × Footprint)) → Runs (loose_moves class design) s w t → s.0.active ≢ [] → t.0.active ≡ [] → w ≢ []
+some_steps : (class : ℕ → ℕ) (design : Design) (s t : OrderedState) (w : List (LooseTransition × Footprint)) → IsRunOfMoves (loose_moves class design) s w t → s.0.active ≢ [] → t.0.active ≡ [] → w ≢ []
 some_steps class design s t [] run some over none = some (ap (λ (x : OrderedState). x.0.active) run ∙ over)
 some_steps class design s t (x ∷ w) run some over none = cc
 

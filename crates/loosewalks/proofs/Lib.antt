@@ -4,5 +4,11 @@ pub mod OnlyEntries
 pub mod PhaseWays
 pub mod CertifiedWays
 pub mod ActiveEntries
+pub mod OtherEntries
 pub mod Walks
+pub mod Ordered
+pub mod TakenAgain
+pub mod GoingOn
 pub mod Certifying
+pub mod Holding
+pub mod Cones

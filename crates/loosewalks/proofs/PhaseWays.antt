@@ -16,15 +16,16 @@ use Rattle.model.specs.Texts.{EndsHere}
 use Rattle.orders.specs.Alike.{IsInOrder}
 use Rattle.orders.proofs.SearchLaws.{then_some}
 use Rattle.orders.proofs.GoingOn.{goes_on}
-use Rattle.phases.specs.Phase.{Block, IsPhase, TakesEvent}
+use Rattle.phases.specs.Phase.{Block, SettleBetween, IsPhase, TakesEvent}
 use Rattle.loose.specs.declared.transition.LooseTransition.{LooseTransition}
 use Rattle.loose.specs.declared.transition.LooseTransition.TheVariants.{Process, FirstOf, Change}
 use Rattle.loose.specs.Loose.{updates_class, loose_step, loose_run_from, loose_transition_of}
 use Rattle.loose.proofs.ClassLists.{alike_in-has_any}
 use Rattle.loose.proofs.LooseSteps.{loose_step_keeps_order}
 use Rattle.loosephases.specs.LoosePhase.{EndsPhaseLoosely}
-use Rattle.loosephases.proofs.LoosePhaseRuns.{loose_phase_runs, loose_phase_ends_in_one_node, no_long}
+use Rattle.loosephases.proofs.LoosePhaseRuns.{phase_runs_from, loose_phase_ends_in_one_node, no_long}
 use Rattle.certificates.proofs.Prefixes.{none_where_changed}
+use Rattle.heldways.proofs.HeldEnds.{settle_on}
 use Rattle.looseruns.specs.LooseMoves.{first_number, move, moves_from}
 use Rattle.looseruns.specs.LooseCover.{LeadToOneLooseNode, CoverMoves}
 use Rattle.looseruns.specs.LooseGoing.{GoesLooselyTo}
@@ -171,6 +172,13 @@ module _ (class : ℕ → ℕ) (design : Design) (limits : Limits) (members : Li
   some_part s (t ∷ part) f begins over some = omega arith
 
   module _ (s : State) (g : Effect) (way : List LooseTransition) (order : IsInOrder s) (phase : IsPhase design s members block rank) (some : way ≢ []) (actors : AreOfActors way) (goes : GoesLooselyTo class design limits s way g) (over : g.state.active ≡ []) where
+    -- no time passes on the way
+    pub way_time : g.state.time ≡ s.time
+    way_time =
+        let (others, take, run) = come_of_events class design way (silent s) goes.effect order actors goes.goes in
+        let (lines, order', phase', stays, stand) = phase_runs_from class design members block rank others (silent s) goes.effect order phase take run in
+        sym goes.one_node.1.time ∙ stays.time
+
     some_active : s.active ≡ [] → ⊥
     some_active none = something_moves class design way s goes.effect some actors goes.goes none
 
@@ -178,26 +186,28 @@ module _ (class : ℕ → ℕ) (design : Design) (limits : Limits) (members : Li
     way_over = empty_if goes.effect.state.active (alike_in-has_any class goes.effect.state.active g.state.active goes.one_node.1.active ∙ ap has_any over)
 
     -- a part up to the end of the phase leads to one loose node with the way
-    meets : (part : List LooseTransition) (f : Effect) → AreOfActors part → moves_from class design (silent s) part ≡ Some f → f.state.active ≡ [] → LeadToOneLooseNode class design limits s part way
-    meets part f actors' begins over' =
+    meets : (part : List LooseTransition) (f : Effect) → AreOfActors part → moves_from class design (silent s) part ≡ Some f → f.state.active ≡ [] → SettleBetween design members block s g.state
+        → LeadToOneLooseNode class design limits s part way
+    meets part f actors' begins over' settle =
         let (entries, take, run) = come_of_events class design part (silent s) f order actors' begins in
         let (others, take', run') = come_of_events class design way (silent s) goes.effect order actors goes.goes in
         let first : EndsPhaseLoosely class design (silent s) entries f = (take, run, over') in
         let second : EndsPhaseLoosely class design (silent s) others goes.effect = (take', run', way_over) in
-        let (lines, strict, node) = loose_phase_ends_in_one_node class design members block rank (silent s) f goes.effect entries others order phase first second in
+        let settle' : SettleBetween design members block s goes.effect.state = settle_on design members block s g.state goes.effect.state (sym goes.one_node.1.store) settle in
+        let (lines, strict, node) = loose_phase_ends_in_one_node class design members block rank (silent s) f goes.effect entries others order phase first second settle' in
         (f, goes.effect, begins, goes.goes, goes.timely, node)
 
-    phase_covers : CoverMoves class design limits s (way ∷ [])
-    phase_covers transition more h end all timely here =
+    phase_covers : SettleBetween design members block s g.state → CoverMoves class design limits s (way ∷ [])
+    phase_covers settle transition more h end all timely here =
         let (part, rest, same, actors', first) = divided (transition ∷ more) in
         let (f, begins, later) = lead_through class design part rest (silent s) h (ap (moves_from class design (silent s)) same ∙ all) in
         let (entries, take, run) = come_of_events class design part (silent s) f order actors' begins in
-        let (lines, order', phase', stays) = loose_phase_runs class design members block rank entries (silent s) f order phase take run in
+        let (lines, order', phase', stays, stand) = phase_runs_from class design members block rank entries (silent s) f order phase take run in
         let over' : f.state.active ≡ [] = is_over f h rest end order' phase' first later here in
-        (part, rest, some_part s part f begins over' some_active, same, one_is (LeadToOneLooseNode class design limits s part) way (meets part f actors' begins over'))
+        (part, rest, some_part s part f begins over' some_active, same, one_is (LeadToOneLooseNode class design limits s part) way (meets part f actors' begins over' settle))
 
-    phase_stands : StandsForAllLoosely class design limits s way
-    phase_stands = record { covers = phase_covers; goes_on = λ end here. none_ends s s.active end order phase refl some_active here }
+    phase_stands : SettleBetween design members block s g.state → StandsForAllLoosely class design limits s way
+    phase_stands settle = record { covers = phase_covers settle; goes_on = λ end here. none_ends s s.active end order phase refl some_active here }
 
 pub phase_way_stands_for_all : PhaseWayStandsForAll
-phase_way_stands_for_all class design limits members block rank s g way order phase some actors goes over = phase_stands class design limits members block rank s g way order phase some actors goes over
+phase_way_stands_for_all class design limits members block rank s g way order phase some actors goes over settle = phase_stands class design limits members block rank s g way order phase some actors goes over settle

@@ -1,6 +1,5 @@
 -- How a walk of loose runs goes on, and that it stands for all.
-use Rattle.std.proofs.Common.{◌≡◌, ◌≢◌, ℕ, ◌+◌, ◌≤◌, Bool, true, false, List, [], ◌∷◌, ◌++◌, length, Option, Some, None, is_some, refl, sym, ap, subst, ◌∙◌, append_assoc, arith, length-append}
-use Rattle.std.specs.Prelude.{IfSome}
+use Rattle.std.proofs.Common.{◌≡◌, ◌≢◌, ℕ, ◌+◌, ◌≤◌, true, false, List, [], ◌∷◌, ◌++◌, length, Option, Some, None, refl, sym, ap, subst, ◌∙◌, append_assoc, arith, length-append}
 use Rattle.std.proofs.lemmas.List.{append-nil}
 use Rattle.model.specs.declared.entry.Entry.{Entry}
 use Rattle.model.specs.declared.entry.Entry.TheVariants.{Turn, Update, ActivateInactive, ActivateNba, ActivateMonitor, Advance}
@@ -9,7 +8,7 @@ use Rattle.model.specs.Design.{Design}
 use Rattle.model.specs.States.{State, Action, Evaluate}
 use Rattle.model.specs.Runs.{Effect, silent, joined, action_in, has_any, IsTimely}
 use Rattle.orders.specs.Alike.{IsInOrder}
-use Rattle.phases.specs.Phase.{TakesEvent}
+use Rattle.phases.specs.Phase.{SettleBetween, TakesEvent}
 use Rattle.design.specs.Compiled.{Compiled, design_of}
 use Rattle.regions.specs.Queue.{Core}
 use Rattle.regions.specs.declared.state.MadeEvent.{MadeEvent}
@@ -30,10 +29,10 @@ use Rattle.looseruns.proofs.LooseGoing.{no_move_stays, loose_step_goes_on, loose
 use Rattle.loosewalks.specs.declared.active.NamedEntry.{NamedEntry}
 use Rattle.loosewalks.specs.Sole.{StandsForAllLoosely, IsLikeReached}
 use Rattle.loosewalks.specs.EventWays.{AreOfActors}
-use Rattle.loosewalks.specs.LooseWalking.{HasWalkedLoosely, HasGoneOn, HasCountedMoves, HasCountedOn, TakenLoosely, IsOnlyStep, IsEventStep, TakesMoves, StandsInPhase, HasPassedBy, IsSoleLooseWay}
+use Rattle.loosewalks.specs.LooseWalking.{HasWalkedLoosely, HasCountedMoves, TakenLoosely, IsOnlyStep, IsEventStep, TakesMoves, HasPassedBy, HasPassedPhase, IsSoleLooseWay}
 use Rattle.loosewalks.proofs.SoleLooseWays.{like_reached_goes_on, alike_stand_for_all, sole_loose_ways_go_on}
 use Rattle.loosewalks.proofs.OnlyEntries.{only_entry_stands_for_all}
-use Rattle.loosewalks.proofs.PhaseWays.{empty_if, phase_way_stands_for_all}
+use Rattle.loosewalks.proofs.PhaseWays.{empty_if, way_time, phase_way_stands_for_all}
 
 -- what a machine took
 
@@ -71,6 +70,16 @@ taken_both class limits old mid new moves more order first code second =
 
 -- a walk goes on by a way that stands for all
 
+-- From whichever state that is like a reached one a walk has gone with some moves to where a machine stood, it has gone with these to
+-- where the machine stands.
+abbrev pub HasWalkedOn : (ℕ → ℕ) → Limits → MachineView → List LooseTransition → MachineView → List LooseTransition → Type 0
+HasWalkedOn class limits old before new after =
+    (s : State) → IsLikeReached class (design_of old.code) s → HasWalkedLoosely class limits s old before → HasWalkedLoosely class limits s new after
+
+-- however many entries a walk began with, it counts its moves where its machine stands
+abbrev pub HasCountedOn : Limits → MachineView → List LooseTransition → MachineView → List LooseTransition → Type 0
+HasCountedOn limits old before new after = (begun : ℕ) → HasCountedMoves limits begun old before → HasCountedMoves limits begun new after
+
 -- what a walk took and what stands for all from there stand for all
 both_stand : (class : ℕ → ℕ) (design : Design) (limits : Limits) (s : State) (way more : List LooseTransition) (f : Effect) → IsInOrder s → (way ≢ [] → StandsForAllLoosely class design limits s way) → GoesLooselyTo class design limits s way f
     → StandsForAllLoosely class design limits f.state more → StandsForAllLoosely class design limits s (way ++ more)
@@ -83,7 +92,7 @@ both_stand class design limits s [] more f order before goes sole =
     nothing e is = cc
 both_stand class design limits s (transition ∷ way) more f order before goes sole = sole_loose_ways_go_on class design limits s (transition ∷ way) more f order (before (λ none. cc)) goes sole
 
-pub gone_on : (class : ℕ → ℕ) (limits : Limits) (old new : MachineView) (before way after : List LooseTransition) → IsSoleLooseWay class limits old way new → new.code ≡ old.code → after ≡ before ++ way → HasGoneOn class limits old before new after
+pub gone_on : (class : ℕ → ℕ) (limits : Limits) (old new : MachineView) (before way after : List LooseTransition) → IsSoleLooseWay class limits old way new → new.code ≡ old.code → after ≡ before ++ way → HasWalkedOn class limits old before new after
 gone_on class limits old new before way after gone code after_is s like walked =
     let design = design_of old.code in
     let there : IsLikeReached class design (state_at old) =
@@ -113,7 +122,7 @@ counted_on class limits old new before way after gone after_is few begun counted
 
 -- a walk stands where its machine is the same, but for what the last entry made
 
-pub walked_still : (class : ℕ → ℕ) (limits : Limits) (old new : MachineView) (before after : List LooseTransition) (made : List MadeEvent) → new ≡ record old { made = made } → after ≡ before → HasGoneOn class limits old before new after
+pub walked_still : (class : ℕ → ℕ) (limits : Limits) (old new : MachineView) (before after : List LooseTransition) (made : List MadeEvent) → new ≡ record old { made = made } → after ≡ before → HasWalkedOn class limits old before new after
 walked_still class limits old new before after made same after_is s like walked =
     subst (λ (m : MachineView). HasWalkedLoosely class limits s m after) (sym same)
     (subst (λ (l : List LooseTransition). HasWalkedLoosely class limits s (record old { made = made }) l) (sym after_is)
@@ -123,28 +132,6 @@ pub counted_still : (limits : Limits) (old new : MachineView) (before after : Li
 counted_still limits old new before after made same after_is begun counted =
     let entries : new.core.entries ≡ old.core.entries = ap (λ (m : MachineView). m.core.entries) same in
     record { count = omega (arith, entries, counted.count, ap length after_is); within = λ less. omega (arith, entries, counted.within less) }
-
--- two parts of a walk
-
-pub gone_both : (class : ℕ → ℕ) (limits : Limits) (old mid new : MachineView) (before moves after : List LooseTransition) → HasGoneOn class limits old before mid moves → mid.code ≡ old.code → HasGoneOn class limits mid moves new after → HasGoneOn class limits old before new after
-gone_both class limits old mid new before moves after first code second s like walked =
-    second s (subst (λ (k : Compiled). IsLikeReached class (design_of k) s) (sym code) like) (first s like walked)
-
--- a way that was tried: it was kept, or the machine is the copy again
-
-pub tried_gone : (class : ℕ → ℕ) (limits : Limits) (old mid new copy : MachineView) (before way after : List LooseTransition) (kept : Bool) → copy ≡ old → mid.code ≡ old.code → (kept ≡ true → IsSoleLooseWay class limits old way mid) → (kept ≡ true → new ≡ mid) → (kept ≡ true → after ≡ before ++ way)
-    → (kept ≡ false → new ≡ copy) → (kept ≡ false → after ≡ before) → HasGoneOn class limits old before new after
-tried_gone class limits old mid new copy before way after true same code sole new_is after_is back same_moves =
-    gone_on class limits old new before way after (subst (λ (m : MachineView). IsSoleLooseWay class limits old way m) (sym (new_is refl)) (sole refl)) (ap (λ (m : MachineView). m.code) (new_is refl) ∙ code) (after_is refl)
-tried_gone class limits old mid new copy before way after false same code sole new_is after_is back same_moves =
-    walked_still class limits old new before after old.made (back refl ∙ same) (same_moves refl)
-
-pub tried_counted : (class : ℕ → ℕ) (limits : Limits) (old mid new copy : MachineView) (before way after : List LooseTransition) (kept : Bool) → copy ≡ old → (kept ≡ true → IsSoleLooseWay class limits old way mid) → (kept ≡ true → new ≡ mid) → (kept ≡ true → after ≡ before ++ way)
-    → (kept ≡ true → new.core.entries ≤ limits.max_entries) → (kept ≡ false → new ≡ copy) → (kept ≡ false → after ≡ before) → HasCountedOn limits old before new after
-tried_counted class limits old mid new copy before way after true same sole new_is after_is few back same_moves =
-    counted_on class limits old new before way after (subst (λ (m : MachineView). IsSoleLooseWay class limits old way m) (sym (new_is refl)) (sole refl)) (after_is refl) (λ less. few refl)
-tried_counted class limits old mid new copy before way after false same sole new_is after_is few back same_moves =
-    counted_still limits old new before after old.made (back refl ∙ same) (same_moves refl)
 
 -- a walk begins with no move
 
@@ -222,7 +209,7 @@ some_active core queue same some none =
     let empty : has_any core.active ≡ false = ap has_any none in
     cc
 
-some_moves : (class : ℕ → ℕ) (limits : Limits) (old new : MachineView) (moves : List LooseTransition) → IsInOrder (state_at old) → TakesMoves class limits old moves new → (state_at old).active ≢ [] → (state_at new).active ≡ [] → moves ≢ []
+pub some_moves : (class : ℕ → ℕ) (limits : Limits) (old new : MachineView) (moves : List LooseTransition) → IsInOrder (state_at old) → TakesMoves class limits old moves new → (state_at old).active ≢ [] → (state_at new).active ≡ [] → moves ≢ []
 some_moves class limits old new moves order takes some over none =
     let taken : TakenLoosely class limits old [] new = subst (λ (l : List LooseTransition). TakenLoosely class limits old l new) none (takes.taken order) in
     let same : silent (state_at old) ≡ taken.goes.effect = nothing taken.goes.effect taken.goes.goes in
@@ -234,18 +221,22 @@ some_moves class limits old new moves order takes some over none =
 
 -- through a phase
 
-pub phase_sole : (class : ℕ → ℕ) (limits : Limits) (old new : MachineView) (moves : List LooseTransition) → StandsInPhase old → (state_at old).active ≢ [] → HasPassedBy class limits old moves new → IsSoleLooseWay class limits old moves new
-phase_sole class limits old new moves stands some passed =
+pub phase_sole : (class : ℕ → ℕ) (limits : Limits) (old new : MachineView) (moves : List LooseTransition) (network : Network) (members : List ℕ) → IsPhaseOf old.code (state_at old) network members → (state_at old).active ≢ [] → HasPassedPhase class limits old network members moves new
+    → IsSoleLooseWay class limits old moves new
+phase_sole class limits old new moves network members phase some through =
+    let passed : HasPassedBy class limits old moves new = through.passed in
     record {
       taken = passed.takes.taken;
       sole = λ like.
           let taken : TakenLoosely class limits old moves new = passed.takes.taken like.order in
-          phase_way_stands_for_all class (design_of old.code) limits stands.members (block_at old.code stands.network) (rank_in stands.network.ranks.items) (state_at old) taken.effect moves like.order stands.phase
-          (some_moves class limits old new moves like.order passed.takes some passed.over) passed.takes.actors taken.goes (ap (λ (t : State). t.active) (sym taken.state_is) ∙ passed.over);
+          let more : moves ≢ [] = some_moves class limits old new moves like.order passed.takes some passed.over in
+          let over : taken.effect.state.active ≡ [] = ap (λ (t : State). t.active) (sym taken.state_is) ∙ passed.over in
+          let time : (state_at new).time ≡ (state_at old).time =
+          ap (λ (t : State). t.time) taken.state_is
+          ∙ way_time class (design_of old.code) limits members (block_at old.code network) (rank_in network.ranks.items) (state_at old) taken.effect moves like.order phase more passed.takes.actors taken.goes over in
+          let settle : SettleBetween (design_of old.code) members (block_at old.code network) (state_at old) taken.effect.state =
+          subst (λ (t : State). SettleBetween (design_of old.code) members (block_at old.code network) (state_at old) t) taken.state_is (through.settle phase time) in
+          phase_way_stands_for_all class (design_of old.code) limits members (block_at old.code network) (rank_in network.ranks.items) (state_at old) taken.effect moves like.order phase more passed.takes.actors taken.goes over
+          settle;
       count = passed.takes.count;
     }
-
--- where members were found, a machine stands in a phase
-pub found_phase : {V : Type 0} (o : Option V) (items : V → List ℕ) (m : MachineView) (network : Network) → is_some o ≡ true → IfSome o (λ v. IsPhaseOf m.code (state_at m) network (items v)) → StandsInPhase m
-found_phase None items m network is phase = cc
-found_phase (Some v) items m network is phase = record { network = network; members = items v; phase = phase }

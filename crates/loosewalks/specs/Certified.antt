@@ -6,13 +6,13 @@ use Rattle.design.specs.Compiled.{design_of}
 use Rattle.regions.specs.Machine.{MachineView, state_at}
 use Rattle.regions.specs.StepLogs.{IsTaken}
 use Rattle.loose.specs.declared.transition.LooseTransition.{LooseTransition}
-use Rattle.traces.specs.Traces.{Runs}
+use Rattle.traces.specs.Traces.{IsRunOfMoves}
 use Rattle.footprints.specs.Footprints.{Footprint}
 use Rattle.footprints.specs.Moves.{loose_moves}
 use Rattle.certificates.specs.Notes.{NoteView, TellOfAll}
 use Rattle.certificates.specs.Certified.{Certify}
 use Rattle.certifiedruns.specs.CertifiedCover.{actors_of}
-use Rattle.noted.specs.NotedSteps.{IsNoted}
+use Rattle.noted.specs.NotedSteps.{IsEntryNoted}
 use Rattle.loosewalks.specs.declared.active.NamedEntry.{NamedEntry}
 use Rattle.loosewalks.specs.LooseWalking.{TakesMoves}
 
@@ -20,7 +20,7 @@ use Rattle.loosewalks.specs.LooseWalking.{TakesMoves}
 pub record AreNotedSteps (class : ℕ → ℕ) (old : MachineView) (order : IsInOrder (state_at old)) (notes : List NoteView) (moves : List LooseTransition) (new : MachineView) : Type 0 where
   pub steps : List (LooseTransition × Footprint)
   pub new_order : IsInOrder (state_at new)
-  pub runs : Runs (loose_moves class (design_of old.code)) (state_at old, order) steps (state_at new, new_order)
+  pub runs : IsRunOfMoves (loose_moves class (design_of old.code)) (state_at old, order) steps (state_at new, new_order)
   pub tells : TellOfAll notes steps
   pub moves_are : moves ≡ actors_of steps
 
@@ -32,7 +32,7 @@ pub record TakesNoted (class : ℕ → ℕ) (limits : Limits) (old : MachineView
 -- A machine took an entry. Its note stands behind others, and its transition behind others.
 pub record HasAddedNote (class : ℕ → ℕ) (old : MachineView) (named : NamedEntry) (new : MachineView) (notes more : List NoteView) (way longer : List LooseTransition) : Type 0 where
   pub note : NoteView
-  pub noted : IsNoted class old.code (state_at old) named.entry note
+  pub noted : IsEntryNoted class old.code (state_at old) named.entry note
   pub taken : IsTaken old.code (state_at old) old.lines named.entry (state_at new) new.lines
   pub count : new.core.entries ≡ old.core.entries + 1
   pub notes_are : more ≡ notes ++ note ∷ []

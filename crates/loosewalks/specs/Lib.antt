@@ -1,4 +1,7 @@
 pub mod Sole
 pub mod EventWays
 pub mod LooseWalking
+pub mod Checkpoints
+pub mod Attempts
 pub mod Certified
+pub mod Held

@@ -1,14 +1,14 @@
 -- A walk of loose runs by ways that stand for all.
-use Rattle.std.specs.Prelude.{◌≡◌, ◌≢◌, ℕ, ◌+◌, ◌≤◌, List, [], ◌++◌, length, Some}
+use Rattle.std.specs.Prelude.{◌≡◌, ◌≢◌, ℕ, ◌+◌, ◌≤◌, List, [], ◌∷◌, ◌++◌, length, Some}
 use Rattle.model.specs.declared.end.Limits.{Limits}
 use Rattle.model.specs.States.{State}
 use Rattle.model.specs.Runs.{Effect}
 use Rattle.orders.specs.Alike.{IsInOrder}
-use Rattle.phases.specs.Phase.{TakesEvent}
+use Rattle.phases.specs.Phase.{SettleBetween, TakesEvent}
 use Rattle.design.specs.Compiled.{design_of}
 use Rattle.combinational.specs.declared.network.Network.{Network}
 use Rattle.regions.specs.Machine.{MachineView, state_at}
-use Rattle.settling.specs.Settling.{IsPhaseOf}
+use Rattle.settling.specs.Settling.{block_at, IsPhaseOf}
 use Rattle.loose.specs.declared.transition.LooseTransition.{LooseTransition}
 use Rattle.loose.specs.Loose.{loose_transition_of}
 use Rattle.looseruns.specs.LooseGoing.{GoesLooselyTo}
@@ -24,13 +24,6 @@ pub record HasWalkedLoosely (class : ℕ → ℕ) (limits : Limits) (s : State) 
   pub goes : GoesLooselyTo class (design_of m.code) limits s moves effect
   pub state_is : state_at m ≡ effect.state
   pub lines_are : m.lines ≡ effect.lines
-
--- From whichever state that is like a reached one a walk has gone with some moves to where a machine stood, it has gone with these to
--- where the machine stands.
-abbrev pub HasGoneOn : (ℕ → ℕ) → Limits → MachineView → List LooseTransition → MachineView → List LooseTransition → Type 0
-HasGoneOn class limits old before new after =
-    (s : State) → IsLikeReached class (design_of old.code) s → HasWalkedLoosely class limits s old before
-    → HasWalkedLoosely class limits s new after
 
 -- A walk counts its moves, from so many entries at its beginning: its machine has taken as many more, and no more than a run may have
 -- where there were none too many.
@@ -61,16 +54,18 @@ pub record TakesMoves (class : ℕ → ℕ) (limits : Limits) (old : MachineView
   pub taken : IsInOrder (state_at old) → TakenLoosely class limits old moves new
   pub count : new.core.entries ≡ old.core.entries + length moves
 
--- where a machine stands is a phase of some combinational processes
-pub record StandsInPhase (m : MachineView) : Type 0 where
-  pub network : Network
-  pub members : List ℕ
-  pub phase : IsPhaseOf m.code (state_at m) network members
-
 -- a machine took the events of these moves, until none was active
 pub record HasPassedBy (class : ℕ → ℕ) (limits : Limits) (old : MachineView) (moves : List LooseTransition) (new : MachineView) : Type 0 where
   pub takes : TakesMoves class limits old moves new
   pub over : (state_at new).active ≡ []
+
+-- A machine passed through a phase of these members: it took the events of these moves, until none was active; and the members settle,
+-- if it is the same time.
+pub record HasPassedPhase (class : ℕ → ℕ) (limits : Limits) (old : MachineView) (network : Network) (members : List ℕ) (moves : List LooseTransition) (new : MachineView) : Type 0 where
+  pub passed : HasPassedBy class limits old moves new
+  pub settle :
+      IsPhaseOf old.code (state_at old) network members → (state_at new).time ≡ (state_at old).time
+      → SettleBetween (design_of old.code) members (block_at old.code network) (state_at old) (state_at new)
 
 -- a machine went so by moves that stand for all, from a state that is like a reached one
 pub record IsSoleLooseWay (class : ℕ → ℕ) (limits : Limits) (old : MachineView) (moves : List LooseTransition) (new : MachineView) : Type 0 where
@@ -78,7 +73,7 @@ pub record IsSoleLooseWay (class : ℕ → ℕ) (limits : Limits) (old : Machine
   pub sole : IsLikeReached class (design_of old.code) (state_at old) → StandsForAllLoosely class (design_of old.code) limits (state_at old) moves
   pub count : new.core.entries ≡ old.core.entries + length moves
 
--- however many entries a walk began with, it counts its moves where its machine stands
-abbrev pub HasCountedOn : Limits → MachineView → List LooseTransition → MachineView → List LooseTransition → Type 0
-HasCountedOn limits old before new after =
-    (begun : ℕ) → HasCountedMoves limits begun old before → HasCountedMoves limits begun new after
+-- a machine took one entry of this transition, which stands for all, and has no more entries than the most
+pub record HasStepped (class : ℕ → ℕ) (limits : Limits) (old : MachineView) (transition : LooseTransition) (new : MachineView) : Type 0 where
+  pub way : IsSoleLooseWay class limits old (transition ∷ []) new
+  pub few : new.core.entries ≤ limits.max_entries

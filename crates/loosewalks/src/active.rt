@@ -1,17 +1,24 @@
 //! The entry that a walk takes next, with its transition.
 ghost use Rattle.std.specs.Prelude.{◌≡◌, [], None, IfSome};
 ghost use Rattle.model.specs.declared.entry.Entry.TheVariants as entries;
-ghost use Rattle.loose.specs.declared.transition.LooseTransition.TheVariants.{Process, FirstOf};
+ghost use Rattle.model.specs.Turns.{contains};
 ghost use Rattle.loose.specs.Classes.{class_in};
+ghost use Rattle.loose.specs.declared.transition.LooseTransition.TheVariants.{Process, FirstOf};
 ghost use Rattle.regions.specs.Machine.{state_at};
+ghost use Rattle.heldmoves.specs.WithoutHeld.{without_held};
 ghost use Rattle.loosewalks.specs.LooseWalking.{IsEventStep, IsOnlyStep};
+ghost use Rattle.certificates.specs.CertificateLaws.{NobodyWaits};
+ghost use Rattle.noted.specs.NotedSteps.{IsOfOther};
+ghost use Rattle.loosewalks.specs.Held.{IsUnheldOf, AllAreHeld};
 
+use combinational::is_among;
 use design::RegId;
 use loose::transition::LooseTransition;
 use model::end::Limits;
 use model::entry::Entry;
 use regions::{Evaluation, Machine, Update};
 use runs::halting::is_timely;
+use std::collections::VecDeque;
 
 /// An entry with its transition.
 #[derive(Clone, Copy)]
@@ -64,6 +71,42 @@ pub(crate) fn first_active(machine: &Machine<'_>, classes: &[u32]) -> Option<Nam
     }
     match evaluations.front() {
         Some(evaluation) => Some(turn_entry(*evaluation)),
+        None => None,
+    }
+}
+
+// The first of these evaluations that is of a process that isn't held.
+fn first_unheld(evaluations: &VecDeque<Evaluation>, held: &[u32]) -> Option<Evaluation>
+    ensures found { IfSome result (IsUnheldOf held.now evaluations.now.items) }
+    ensures none { result ≡ None → AllAreHeld held.now evaluations.now.items }
+{
+    for at in 0..evaluations.len() {
+        let evaluation = evaluations[at];
+        if !is_among(held, evaluation.process) {
+            return Some(evaluation);
+        }
+    }
+    None
+}
+
+/// The first update that is active, or else the first evaluation of a process that isn't held.
+pub(crate) fn first_other(
+    machine: &Machine<'_>,
+    classes: &[u32],
+    held: &[u32],
+) -> Option<NamedEntry>
+    ensures event { IfSome result (IsEventStep (class_in classes.now) (state_at machine.now)) }
+    ensures other { IfSome result (λ named. IsOfOther (contains held.now) (state_at machine.now) named.entry) }
+    ensures none { result ≡ None → NobodyWaits (class_in classes.now) (without_held (contains held.now) (state_at machine.now)) }
+{
+    machine.stands_in_order();
+    let (updates, evaluations) = machine.state().active();
+    match updates.front() {
+        Some(update) => return Some(update_entry(classes, *update)),
+        None => {}
+    }
+    match first_unheld(evaluations, held) {
+        Some(evaluation) => Some(turn_entry(evaluation)),
         None => None,
     }
 }

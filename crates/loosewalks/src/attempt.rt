@@ -1,53 +1,81 @@
-//! A way that a walk tries: where it doesn't stand for all, the machine goes back to where it was tried.
-ghost use Rattle.std.specs.Prelude.{◌≡◌, ◌+◌, ◌≤◌, ◌∷◌, [], ◌++◌, false, true, IfOk};
+//! A way that a walk tries: where it doesn't stand for all, the machine goes back.
+ghost use Rattle.std.specs.Prelude.{◌≡◌, ◌≢◌, ◌≤◌, [], true, IfOk, IfSome, OnOk};
+ghost use Rattle.loose.specs.Classes.{class_in};
+ghost use Rattle.loosewalks.specs.Attempts.{IsFit};
+ghost use Rattle.loosewalks.specs.LooseWalking.{IsSoleLooseWay};
+ghost use Rattle.combinational.specs.Found.{IsNetworkOf};
+ghost use Rattle.loosewalks.specs.Checkpoints.{AreOfCode, WalkGoesOn};
 ghost use Rattle.regions.specs.Machine.{state_at};
-ghost use Rattle.regions.specs.StepLogs.{IsTaken};
 
-use crate::active::NamedEntry;
-use loose::transition::LooseTransition;
+use crate::certified::take_certified;
+use crate::checkpoint::{Walk, roll_back};
+use crate::held::{held_members, take_held};
+use crate::phase::{have_logic, take_phase};
+use crate::room::{LooseRoom, WalkScope};
 use model::end::Limits;
-use regions::{Machine, TakeFault};
-use std::alloc::{AllocError, Global};
-use std::mem;
+use regions::Machine;
+use settling::phase_of;
+use std::alloc::AllocError;
 
-/// A copy of a machine, on the heap.
-pub fn copy_of<'d>(alloc: Global, machine: &Machine<'d>) -> Result<Box<Machine<'d>>, AllocError>
-    ensures { IfOk result (λ copy. copy.value ≡ machine.now) }
-{
-    let copy = machine.copy(alloc)?;
-    let boxed = Box::new(alloc, copy)?;
-    Ok(boxed)
+/// A way through all that is active, which may stand for all.
+#[derive(Clone, Copy)]
+pub(crate) enum WayThrough {
+    /// Through a phase of combinational processes.
+    Phase,
+    /// By events whose notes certify it.
+    Certified,
+    /// By such events while combinational processes are held, and then by the events of these.
+    Held,
 }
 
-/// Tells that an entry wasn't taken. Fails where memory was refused.
-pub(crate) fn not_taken(fault: TakeFault) -> Result<bool, AllocError>
-    ensures { IfOk result (λ taken. taken ≡ false) }
+// The processes with which a way may be tried where a machine stands: the members of a phase, those that are held, or none where the notes
+// certify. None where it may not be tried.
+fn members_for(
+    scope: WalkScope<'_>,
+    machine: &Machine<'_>,
+    way: WayThrough,
+) -> Result<Option<Vec<u32>>, AllocError>
+    requires { IsNetworkOf machine.now.code scope.network.now }
+    ensures { IfOk result (λ found. IfSome found (λ members. IsFit way machine.now scope.entry.network.now members.items)) }
 {
-    match fault {
-        TakeFault::ApplyMemory => Err(AllocError),
-        TakeFault::Memory => Err(AllocError),
-        _ => Ok(false),
+    match way {
+        WayThrough::Phase => {
+            if !have_logic(scope.network, machine.state().active().1) {
+                return Ok(None);
+            }
+            phase_of(scope.alloc, machine, scope.network)
+        }
+        WayThrough::Certified => Ok(Some(Vec::new(scope.alloc))),
+        WayThrough::Held => held_members(scope, machine),
     }
 }
 
-/// Takes an entry, and appends its transition to a way. Answers whether it did.
-pub(crate) fn take_one(
+// Takes what is active by a way, with these processes. Answers whether it came to where nothing is active, and what it took, which is left
+// in the room, stands for all.
+fn take_way(
+    scope: WalkScope<'_>,
+    way: WayThrough,
+    members: &[u32],
+    room: &mut LooseRoom,
     machine: &mut Machine<'_>,
-    way: &mut Vec<LooseTransition>,
-    named: NamedEntry,
 ) -> Result<bool, AllocError>
-    ensures taken { IfOk result (λ done. done ≡ true → IsTaken machine.old.code (state_at machine.old) machine.old.lines named.entry (state_at machine.new) machine.new.lines) }
-    ensures count { IfOk result (λ done. done ≡ true → machine.new.core.entries ≡ machine.old.core.entries + 1) }
-    ensures way { IfOk result (λ done. done ≡ true → way.new.items ≡ way.old.items ++ named.transition ∷ []) }
+    requires network { IsNetworkOf machine.old.code scope.network.now }
+    requires active { (state_at machine.old).active ≢ [] }
+    requires fit { IsFit way machine.old scope.network.now members.now }
+    ensures sole { IfOk result (λ all. all ≡ true → IsSoleLooseWay (class_in scope.entry.classes.now) scope.entry.limits machine.old room.new.way.items machine.new) }
     ensures code { machine.new.code ≡ machine.old.code }
 {
-    way.push(named.transition)?;
-    match machine.take(named.entry) {
-        Ok(()) => Ok(true),
-        Err(fault) => {
-            let taken = not_taken(fault)?;
-            Ok(taken)
-        }
+    match way {
+        WayThrough::Phase => take_phase(scope, members, &mut room.way, machine),
+        WayThrough::Certified => take_certified(machine, scope.classes, room),
+        WayThrough::Held => take_held(
+            scope.alloc,
+            scope.network,
+            scope.classes,
+            members,
+            room,
+            machine,
+        ),
     }
 }
 
@@ -59,28 +87,35 @@ fn is_kept(limits: Limits, machine: &Machine<'_>, all: bool) -> bool
     all && machine.state().entries() <= u64::from(limits.max_entries)
 }
 
-/// Ends a way that a machine tried: it is kept, and its moves are appended, where it stands for all and the machine has no more entries
-/// than the most. Otherwise the machine goes back to the copy. Answers whether the way was kept.
-pub(crate) fn end_way<'d>(
-    limits: Limits,
+/// Goes on by a way through what is active, to where nothing is, where it may be tried, stands for all and the run has room for it. Answers
+/// whether it did. Where the way was tried and isn't kept, the machine goes back to the walk's checkpoint and takes the moves since again,
+/// and the walk is left without a checkpoint.
+pub(crate) fn go_by<'d>(
+    scope: WalkScope<'_>,
+    room: &mut LooseRoom,
+    walk: &mut Walk<'d>,
     machine: &mut Machine<'d>,
-    copy: &mut Machine<'d>,
-    all: bool,
-    moves: &mut Vec<LooseTransition>,
-    way: &[LooseTransition],
+    way: WayThrough,
 ) -> Result<bool, AllocError>
-    ensures all { IfOk result (λ kept. kept ≡ true → all ≡ true) }
-    ensures few { IfOk result (λ kept. kept ≡ true → machine.new.core.entries ≤ limits.max_entries) }
-    ensures stays { IfOk result (λ kept. kept ≡ true → machine.new ≡ machine.old) }
-    ensures moves { IfOk result (λ kept. kept ≡ true → moves.new.items ≡ moves.old.items ++ way.now) }
-    ensures back { IfOk result (λ kept. kept ≡ false → machine.new ≡ copy.old) }
-    ensures same_moves { IfOk result (λ kept. kept ≡ false → moves.new ≡ moves.old) }
-    ensures code { machine.old.code ≡ copy.old.code → machine.new.code ≡ machine.old.code }
+    requires network { IsNetworkOf machine.old.code scope.network.now }
+    requires code { AreOfCode machine.old.code machine.old walk.old }
+    ensures on { OnOk result (WalkGoesOn (class_in scope.entry.classes.now) scope.entry.limits machine.old walk.old machine.new walk.new) }
+    ensures code { AreOfCode machine.old.code machine.new walk.new }
 {
-    if is_kept(limits, machine, all) {
-        moves.extend_from_slice(way)?;
+    if !machine.state().is_active() {
+        return Ok(false);
+    }
+    let members = match members_for(scope, machine, way)? {
+        Some(members) => members,
+        None => return Ok(false),
+    };
+    let checkpoint = walk.take_checkpoint(scope.alloc, machine)?;
+    let all = take_way(scope, way, &members, room, machine)?;
+    if is_kept(scope.limits, machine, all) {
+        walk.since.extend_from_slice(&room.way)?;
+        walk.checkpoint = Some(checkpoint);
         return Ok(true);
     }
-    mem::swap(machine, copy);
+    roll_back(scope.classes, checkpoint, &walk.since, machine)?;
     Ok(false)
 }

@@ -1,17 +1,15 @@
-//! A step of a walk by a run that is certified, up to where nothing is active.
-ghost use Rattle.std.specs.Prelude.{◌≡◌, false, true, IfOk, OnOk};
+//! A way of a walk by a run that is certified, up to where nothing is active.
+ghost use Rattle.std.specs.Prelude.{◌≡◌, ◌∷◌, [], ◌++◌, false, true, IfOk, IsOk};
 ghost use Rattle.model.specs.declared.end.Limits.{Limits};
 ghost use Rattle.loose.specs.Classes.{class_in};
-ghost use Rattle.loosewalks.specs.LooseWalking.{HasCountedOn, HasGoneOn};
 ghost use Rattle.loosewalks.specs.Certified.{HasAddedNote, HasCertified};
 
 use crate::active::{NamedEntry, first_active};
-use crate::attempt::{copy_of, end_way, not_taken};
 use crate::room::LooseRoom;
-use model::end::Limits;
+use crate::taking::not_taken;
 use noted::{NotedFault, take_noted};
 use regions::Machine;
-use std::alloc::{AllocError, Global};
+use std::alloc::AllocError;
 
 // The most events of one certified run that a walk takes.
 const MOST_EVENTS: u32 = 4_096;
@@ -27,19 +25,16 @@ fn not_noted(fault: NotedFault) -> Result<bool, AllocError>
     }
 }
 
-// Takes the event of an entry, and adds its note to the certificate and its transition to the way. Answers whether the notes certify.
-fn take_certified_one(
-    machine: &mut Machine<'_>,
-    classes: &[u32],
+/// Adds the note of an entry to the certificate, where the entry was taken. Answers whether it was, and the notes certify.
+pub(crate) fn add_noted(
     room: &mut LooseRoom,
-    named: NamedEntry,
+    taken: Result<(), NotedFault>,
 ) -> Result<bool, AllocError>
-    ensures added { IfOk result (λ all. all ≡ true → HasAddedNote (class_in classes.now) machine.old named machine.new room.old.certificate room.new.certificate room.old.way.items room.new.way.items) }
-    ensures code { machine.new.code ≡ machine.old.code }
-    ensures moves { room.new.moves ≡ room.old.moves }
+    ensures taken { IfOk result (λ all. all ≡ true → IsOk taken) }
+    ensures added { IfOk result (λ all. all ≡ true → room.new.certificate ≡ room.old.certificate ++ room.old.note ∷ []) }
+    ensures way { room.new.way ≡ room.old.way }
 {
-    room.way.push(named.transition)?;
-    match take_noted(machine, classes, named.entry, &mut room.log, &mut room.note) {
+    match taken {
         Ok(()) => {
             let certifies = room.certificate.add(&mut room.note)?;
             Ok(certifies)
@@ -51,15 +46,30 @@ fn take_certified_one(
     }
 }
 
-// Takes what is active, one event after another with its note, until nothing is. Answers whether it came to that, and the notes certify.
-fn take_certified(
+// Takes the event of an entry, and adds its note to the certificate and its transition to the way. Answers whether the notes certify.
+fn take_certified_one(
+    machine: &mut Machine<'_>,
+    classes: &[u32],
+    room: &mut LooseRoom,
+    named: NamedEntry,
+) -> Result<bool, AllocError>
+    ensures added { IfOk result (λ all. all ≡ true → HasAddedNote (class_in classes.now) machine.old named machine.new room.old.certificate room.new.certificate room.old.way.items room.new.way.items) }
+    ensures code { machine.new.code ≡ machine.old.code }
+{
+    room.way.push(named.transition)?;
+    let taken = take_noted(machine, classes, named.entry, &mut room.log, &mut room.note);
+    let all = add_noted(room, taken)?;
+    Ok(all)
+}
+
+/// Takes what is active, one event after another with its note, until nothing is. Answers whether it came to that, and the notes certify.
+pub(crate) fn take_certified(
     machine: &mut Machine<'_>,
     classes: &[u32],
     room: &mut LooseRoom,
 ) -> Result<bool, AllocError>
     ensures certified { IfOk result (λ all. all ≡ true → (limits : Limits) → HasCertified (class_in classes.now) limits machine.old room.new.way.items machine.new) }
     ensures code { machine.new.code ≡ machine.old.code }
-    ensures moves { room.new.moves ≡ room.old.moves }
 {
     room.way.clear();
     room.certificate.clear();
@@ -73,26 +83,4 @@ fn take_certified(
         }
     }
     Ok(false)
-}
-
-/// Goes on by what is active, to where nothing is, where the notes of this certify that it stands for all and the run has room for it.
-/// Answers whether it did.
-pub(crate) fn certified_way(
-    alloc: Global,
-    classes: &[u32],
-    limits: Limits,
-    room: &mut LooseRoom,
-    machine: &mut Machine<'_>,
-) -> Result<bool, AllocError>
-    ensures walked { OnOk result (HasGoneOn (class_in classes.now) limits machine.old room.old.moves.items machine.new room.new.moves.items) }
-    ensures counted { OnOk result (HasCountedOn limits machine.old room.old.moves.items machine.new room.new.moves.items) }
-    ensures code { machine.new.code ≡ machine.old.code }
-{
-    if !machine.state().is_active() {
-        return Ok(false);
-    }
-    let mut copy = copy_of(alloc, machine)?;
-    let all = take_certified(machine, classes, room)?;
-    let kept = end_way(limits, machine, &mut copy, all, &mut room.moves, &room.way)?;
-    Ok(kept)
 }

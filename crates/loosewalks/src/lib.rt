@@ -1,23 +1,32 @@
 //! A walk of a search of loose runs, from where a machine stands, as long as one way stands for all.
 //!
-//! 1. `active` names the entry that a walk takes next: the only one that may be taken, or the first that is active.
-//! 2. `attempt` tries a way on the machine itself, which goes back to a copy where that doesn't stand for all.
-//! 3. `phase` goes through a phase of combinational processes, up to its end.
-//! 4. `certified` takes all that is active, where the notes of its steps certify that they stand for all.
-//! 5. `walk` goes on so, up to the next choice or for some hundred steps, in the `room` that it keeps.
+//! 1. `active` names the entry that a walk takes next: the only one that may be taken, or the first that is active. `taking` takes it.
+//! 2. `attempt` tries a way on the machine itself, where that may be tried: through a phase, by what is certified, or while processes are
+//!    held. Where the way doesn't stand for all, the machine goes back.
+//! 3. `checkpoint` has what a walk goes back to: the machine as it was copied before a way was tried, from which the walk's moves since
+//!    are taken again. Another copy is made behind a way that failed, or as many moves on as a copy is long.
+//! 4. `phase` goes through a phase of combinational processes, up to its end.
+//! 5. `certified` takes all that is active, where the notes of its steps certify that they stand for all.
+//! 6. `held` does so while combinational processes are held, where the steps of the others keep off these (`cone`), and takes the events
+//!    of these last.
+//! 7. `walk` goes on so, up to the next choice or for some hundred steps, in the `room` that it keeps.
 //!
 //! The definitions stand in `specs/`: when one way stands for all (`Sole`), which ways through events do (`EventWays`), and what a walk
-//! has come to (`LooseWalking`, `Certified`). `laws` carries what is proved of them besides.
+//! has come to (`LooseWalking`, `Checkpoints`, `Attempts`, `Certified`, `Held`). `laws` carries what is proved of them besides.
 #![tactic(auto)]
 
 mod active;
 mod attempt;
 mod certified;
+mod checkpoint;
+mod cone;
+mod held;
 pub mod laws;
 mod phase;
 mod room;
+mod taking;
 mod walk;
 
-pub use attempt::copy_of;
+pub use checkpoint::copy_of;
 pub use room::LooseRoom;
 pub use walk::walk_loosely;

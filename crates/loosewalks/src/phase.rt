@@ -1,33 +1,35 @@
-//! A step of a walk through a phase of combinational processes, up to its end.
-ghost use Rattle.std.specs.Prelude.{◌≡◌, true, IfOk, OnOk};
+//! A way of a walk through a phase of combinational processes, up to its end.
+ghost use Rattle.std.specs.Prelude.{◌≡◌, [], true, IfOk};
 ghost use Rattle.model.specs.declared.end.Limits.{Limits};
 ghost use Rattle.loose.specs.Classes.{class_in};
-ghost use Rattle.loosewalks.specs.LooseWalking.{HasCountedOn, HasGoneOn, HasPassedBy, StandsInPhase};
+ghost use Rattle.regions.specs.Machine.{state_at};
+ghost use Rattle.loosewalks.specs.LooseWalking.{HasPassedBy, HasPassedPhase};
+ghost use Rattle.combinational.specs.Found.{IsNetworkOf};
+ghost use Rattle.loosewalks.specs.Held.{TakesOn};
 
 use crate::active::first_active;
-use crate::attempt::{copy_of, end_way, take_one};
-use crate::room::LooseRoom;
+use crate::room::WalkScope;
+use crate::taking::take_one;
 use combinational::Network;
 use loose::transition::LooseTransition;
-use model::end::Limits;
 use regions::{Evaluation, Machine};
-use settling::{AnalyzedDesign, phase_of};
-use std::alloc::{AllocError, Global};
+use settling::{Begin, settle_since};
+use std::alloc::AllocError;
 use std::collections::VecDeque;
 
 // The most events of one phase that a walk takes.
 const MOST_EVENTS: u32 = 65_536;
 
-// Takes what is active, one event after another, until nothing is. Answers whether it came to that.
-fn take_active(
+/// Takes what is active, one event after another, until nothing is, and appends the transitions to a way. Answers whether it came to that.
+pub(crate) fn take_on(
     machine: &mut Machine<'_>,
     classes: &[u32],
     way: &mut Vec<LooseTransition>,
 ) -> Result<bool, AllocError>
-    ensures passed { IfOk result (λ all. all ≡ true → (limits : Limits) → HasPassedBy (class_in classes.now) limits machine.old way.new.items machine.new) }
+    ensures on { IfOk result (λ all. all ≡ true → TakesOn (class_in classes.now) machine.old way.old.items machine.new way.new.items) }
+    ensures over { IfOk result (λ all. all ≡ true → (state_at machine.new).active ≡ []) }
     ensures code { machine.new.code ≡ machine.old.code }
 {
-    way.clear();
     for _ in 0..MOST_EVENTS {
         let named = match first_active(machine, classes) {
             Some(named) => named,
@@ -40,6 +42,39 @@ fn take_active(
     Ok(false)
 }
 
+// Takes what is active, one event after another, until nothing is. Answers whether it came to that.
+fn take_active(
+    machine: &mut Machine<'_>,
+    classes: &[u32],
+    way: &mut Vec<LooseTransition>,
+) -> Result<bool, AllocError>
+    ensures passed { IfOk result (λ all. all ≡ true → (limits : Limits) → HasPassedBy (class_in classes.now) limits machine.old way.new.items machine.new) }
+    ensures code { machine.new.code ≡ machine.old.code }
+{
+    way.clear();
+    let all = take_on(machine, classes, way)?;
+    Ok(all)
+}
+
+/// Takes what is active in a phase of these members, one event after another, until nothing is. Answers whether it came to that, and the
+/// members settle.
+pub(crate) fn take_phase(
+    scope: WalkScope<'_>,
+    members: &[u32],
+    way: &mut Vec<LooseTransition>,
+    machine: &mut Machine<'_>,
+) -> Result<bool, AllocError>
+    requires { IsNetworkOf machine.old.code scope.network.now }
+    ensures passed { IfOk result (λ all. all ≡ true → (limits : Limits) → HasPassedPhase (class_in scope.entry.classes.now) limits machine.old scope.entry.network.now members.now way.new.items machine.new) }
+    ensures code { machine.new.code ≡ machine.old.code }
+{
+    let begin = Begin::of(scope.alloc, machine)?;
+    if !take_active(machine, scope.classes, way)? {
+        return Ok(false);
+    }
+    settle_since(scope.alloc, &begin, machine, scope.network, members)
+}
+
 // Whether a process has logic.
 fn has_logic(network: &Network, process: u32) -> bool {
     match network.logics.get(process as usize) {
@@ -48,8 +83,8 @@ fn has_logic(network: &Network, process: u32) -> bool {
     }
 }
 
-// Whether the process of each of these evaluations has logic. In a phase it has, so that most states that are none are told soon.
-fn have_logic(network: &Network, evaluations: &VecDeque<Evaluation>) -> bool {
+/// Whether the process of each of these evaluations has logic. In a phase it has, so that most states that are none are told soon.
+pub(crate) fn have_logic(network: &Network, evaluations: &VecDeque<Evaluation>) -> bool {
     for at in 0..evaluations.len() {
         let evaluation = evaluations[at];
         if !has_logic(network, evaluation.process) {
@@ -57,47 +92,4 @@ fn have_logic(network: &Network, evaluations: &VecDeque<Evaluation>) -> bool {
         }
     }
     true
-}
-
-// Whether the state of a machine is a phase.
-fn is_phase(
-    alloc: Global,
-    analyzed_design: &AnalyzedDesign<'_>,
-    machine: &Machine<'_>,
-) -> Result<bool, AllocError>
-    requires code { machine.now.code ≡ analyzed_design.now }
-    ensures { IfOk result (λ is. is ≡ true → StandsInPhase machine.now) }
-{
-    let network = analyzed_design.network();
-    if !have_logic(network, machine.state().active().1) {
-        return Ok(false);
-    }
-    let found = phase_of(alloc, machine, network)?;
-    Ok(found.is_some())
-}
-
-/// Goes on through a phase in which something is active, to its end, where the run has room for it. Answers whether it did.
-pub(crate) fn phase_way(
-    alloc: Global,
-    analyzed_design: &AnalyzedDesign<'_>,
-    classes: &[u32],
-    limits: Limits,
-    room: &mut LooseRoom,
-    machine: &mut Machine<'_>,
-) -> Result<bool, AllocError>
-    requires code { machine.old.code ≡ analyzed_design.now }
-    ensures walked { OnOk result (HasGoneOn (class_in classes.now) limits machine.old room.old.moves.items machine.new room.new.moves.items) }
-    ensures counted { OnOk result (HasCountedOn limits machine.old room.old.moves.items machine.new room.new.moves.items) }
-    ensures code { machine.new.code ≡ machine.old.code }
-{
-    if !machine.state().is_active() {
-        return Ok(false);
-    }
-    if !is_phase(alloc, analyzed_design, machine)? {
-        return Ok(false);
-    }
-    let mut copy = copy_of(alloc, machine)?;
-    let all = take_active(machine, classes, &mut room.way)?;
-    let kept = end_way(limits, machine, &mut copy, all, &mut room.moves, &room.way)?;
-    Ok(kept)
 }

@@ -1,29 +1,39 @@
-//! What a walk works in.
+//! What a walk works in, and what it goes by.
 use certificates::certificate::Certificate;
-use certificates::note::Note;
+use certificates::note::StepNote;
+use combinational::Network;
 use loose::transition::LooseTransition;
+use model::end::Limits;
 use std::alloc::Global;
 use turn::TurnLog;
 
-/// What walks work in, one after another: the moves of a walk, the way that it tries, and the log, the note and the certificate of that.
+/// What walks work in, one after another: the way that is tried, and the log, the note and the certificate of that.
 #[derive(Drop)]
 pub struct LooseRoom {
-    pub(crate) moves: Vec<LooseTransition>,
-    pub(crate) way: Vec<LooseTransition>,
     pub(crate) log: TurnLog,
-    pub(crate) note: Note,
+    pub(crate) note: StepNote,
     pub(crate) certificate: Certificate,
+    pub(crate) way: Vec<LooseTransition>,
 }
 
 impl LooseRoom {
     /// Room for the first walk. It grows with what walks need.
     pub fn new(alloc: Global) -> LooseRoom {
         LooseRoom {
-            moves: Vec::new(alloc),
-            way: Vec::new(alloc),
             log: TurnLog::new(alloc),
-            note: Note::new(alloc, LooseTransition::Process(0)),
+            note: StepNote::new(alloc, LooseTransition::Process(0)),
             certificate: Certificate::new(alloc),
+            way: Vec::new(alloc),
         }
     }
+}
+
+/// What a walk goes by: the combinational processes of its design, the classes of the registers, which say which updates wait for each
+/// other, and the limits of a run.
+#[derive(Clone, Copy)]
+pub(crate) struct WalkScope<'a> {
+    pub(crate) alloc: Global,
+    pub(crate) network: &'a Network,
+    pub(crate) classes: &'a [u32],
+    pub(crate) limits: Limits,
 }

@@ -1,97 +1,82 @@
 //! A walk on from a machine, as long as one way stands for all.
-ghost use Rattle.std.specs.Prelude.{ℕ, ◌≡◌, [], IfOk, OnOk};
+ghost use Rattle.std.specs.Prelude.{◌≡◌, [], None, IfOk, IfSome, OnOk};
+ghost use Rattle.combinational.specs.Found.{IsNetworkOf};
 ghost use Rattle.loose.specs.Classes.{class_in};
 ghost use Rattle.design.specs.Compiled.{design_of};
 ghost use Rattle.regions.specs.Machine.{state_at};
 ghost use Rattle.loosewalks.specs.Sole.{IsLikeReached};
-ghost use Rattle.loosewalks.specs.LooseWalking.{HasCountedMoves, HasCountedOn, HasGoneOn, HasWalkedLoosely};
+ghost use Rattle.loosewalks.specs.LooseWalking.{HasCountedMoves, HasStepped, HasWalkedLoosely};
+ghost use Rattle.loosewalks.specs.Checkpoints.{AreOfCode, WalkGoesOn};
 
 use crate::active::only_entry;
-use crate::attempt::not_taken;
-use crate::certified::certified_way;
-use crate::phase::phase_way;
-use crate::room::LooseRoom;
+use crate::attempt::{WayThrough, go_by};
+use crate::checkpoint::{Walk, pending};
+use crate::room::{LooseRoom, WalkScope};
+use crate::taking::not_taken;
 use loose::transition::LooseTransition;
 use model::end::Limits;
 use regions::Machine;
 use settling::AnalyzedDesign;
 use std::alloc::{AllocError, Global};
-use std::mem;
 
 // The most steps of one walk where less is pending: a search looks for a state that it has seen at the end of each. That takes as long as
 // all that is pending, and so it is done once in as many steps.
 const MOST_STEPS: usize = 256;
 
-// How many events are to come and how many lines are, which a copy and a key are as long as.
-fn pending(machine: &Machine<'_>) -> usize {
-    let state = machine.state();
-    state
-        .future_updates()
-        .len()
-        .saturating_add(state.future_evaluations().len())
-        .saturating_add(state.monitor().len())
-}
-
-// Takes the only entry, where there is one and the run has room for it. Answers whether it did.
+// Takes the only entry, where there is one and the run has room for it, and answers its transition.
 fn step(
     classes: &[u32],
     limits: Limits,
     machine: &mut Machine<'_>,
-    moves: &mut Vec<LooseTransition>,
-) -> Result<bool, AllocError>
-    ensures walked { OnOk result (HasGoneOn (class_in classes.now) limits machine.old moves.old.items machine.new moves.new.items) }
-    ensures counted { OnOk result (HasCountedOn limits machine.old moves.old.items machine.new moves.new.items) }
+) -> Result<Option<LooseTransition>, AllocError>
+    ensures stepped { IfOk result (λ taken. IfSome taken (λ transition. HasStepped (class_in classes.now) limits machine.old transition machine.new)) }
+    ensures stays { IfOk result (λ taken. taken ≡ None → machine.new ≡ record machine.old { made = machine.new.made }) }
     ensures code { machine.new.code ≡ machine.old.code }
 {
     if machine.state().entries() >= u64::from(limits.max_entries) {
-        return Ok(false);
+        return Ok(None);
     }
     let named = match only_entry(limits, machine, classes) {
         Some(named) => named,
-        None => return Ok(false),
+        None => return Ok(None),
     };
     match machine.take(named.entry) {
-        Ok(()) => {
-            moves.push(named.transition)?;
-            Ok(true)
-        }
+        Ok(()) => Ok(Some(named.transition)),
         Err(fault) => {
-            let taken = not_taken(fault)?;
-            Ok(taken)
+            not_taken(fault)?;
+            Ok(None)
         }
     }
 }
 
-// Goes on by the only entry, or else through a phase or by a certified run, where one of these stands for all and the run has room for it.
-// Answers whether it did.
-fn go_on(
-    alloc: Global,
-    analyzed_design: &AnalyzedDesign<'_>,
-    classes: &[u32],
-    limits: Limits,
+// Goes on by the only entry, or else through a phase, by a certified run or by one in which processes are held, where one of these stands
+// for all and the run has room for it. Answers whether it did.
+fn go_on<'d>(
+    scope: WalkScope<'_>,
     room: &mut LooseRoom,
-    machine: &mut Machine<'_>,
+    walk: &mut Walk<'d>,
+    machine: &mut Machine<'d>,
 ) -> Result<bool, AllocError>
-    requires code { machine.old.code ≡ analyzed_design.now }
-    ensures walked { OnOk result (HasGoneOn (class_in classes.now) limits machine.old room.old.moves.items machine.new room.new.moves.items) }
-    ensures counted { OnOk result (HasCountedOn limits machine.old room.old.moves.items machine.new room.new.moves.items) }
-    ensures code { machine.new.code ≡ machine.old.code }
+    requires network { IsNetworkOf machine.old.code scope.network.now }
+    requires code { AreOfCode machine.old.code machine.old walk.old }
+    ensures on { OnOk result (WalkGoesOn (class_in scope.entry.classes.now) scope.entry.limits machine.old walk.old machine.new walk.new) }
+    ensures code { AreOfCode machine.old.code machine.new walk.new }
 {
-    if step(classes, limits, machine, &mut room.moves)? {
+    match step(scope.classes, scope.limits, machine)? {
+        Some(transition) => {
+            walk.since.push(transition)?;
+            return Ok(true);
+        }
+        None => {}
+    }
+    if go_by(scope, room, walk, machine, WayThrough::Phase)? {
         return Ok(true);
     }
-    if phase_way(alloc, analyzed_design, classes, limits, room, machine)? {
+    if go_by(scope, room, walk, machine, WayThrough::Certified)? {
         return Ok(true);
     }
-    let gone = certified_way(alloc, classes, limits, room, machine)?;
+    let gone = go_by(scope, room, walk, machine, WayThrough::Held)?;
     Ok(gone)
-}
-
-// The moves of a walk, which are taken out of its room.
-fn taken_moves(alloc: Global, room: &mut LooseRoom) -> Vec<LooseTransition>
-    ensures { result ≡ room.old.moves }
-{
-    mem::replace(&mut room.moves, Vec::new(alloc))
 }
 
 /// Goes on from where a machine stands as long as one way stands for all loose runs, and never past the most entries: for some hundred
@@ -112,12 +97,18 @@ pub fn walk_loosely(
     ensures counted { IfOk result (λ moves. HasCountedMoves limits machine.old.core.entries machine.new moves.items) }
     ensures code { machine.new.code ≡ machine.old.code }
 {
-    room.moves.clear();
+    let scope = WalkScope {
+        alloc,
+        network: analyzed_design.network(),
+        classes,
+        limits,
+    };
+    let mut walk = Walk::new(alloc);
     let most = MOST_STEPS.max(pending(machine));
     for _ in 0..most {
-        if !go_on(alloc, analyzed_design, classes, limits, room, machine)? {
-            return Ok(taken_moves(alloc, room));
+        if !go_on(scope, room, &mut walk, machine)? {
+            return walk.into_moves();
         }
     }
-    Ok(taken_moves(alloc, room))
+    walk.into_moves()
 }

@@ -13,7 +13,7 @@ use Rattle.model.specs.Turns.{contains}
 use Rattle.orders.specs.Apart.{given, all_given}
 use Rattle.orders.proofs.Stores.{length_given, all_other}
 use Rattle.design.specs.Fits.{FitsRegister}
-use Rattle.footprints.specs.Footprints.{ValueChange, change_made, changes_made}
+use Rattle.footprints.specs.Footprints.{RegisterChange, change_made, changes_made}
 use Rattle.noted.specs.NotedSteps.{AreWritesOf, KeepWidths}
 
 -- values
@@ -99,7 +99,7 @@ all_one P x h (suc k) d lt = absurd (omega (arith, lt))
 keeps_if : (a : Store) (w : ℕ × Vector) (b : Bool) → FitsRegister (map length a) w.0 w.1 → KeepWidths (if b then [] else record { register = w.0; before = value_of a w.0; after = w.1 } ∷ [])
 keeps_if a w true fits = λ k d lt. absurd (omega (arith, lt))
 keeps_if a w false fits =
-    all_one (λ (c : ValueChange). length c.before ≡ length c.after) (record { register = w.0; before = value_of a w.0; after = w.1 }) (sym (width_is a w.0 w.1 fits))
+    all_one (λ (c : RegisterChange). length c.before ≡ length c.after) (record { register = w.0; before = value_of a w.0; after = w.1 }) (sym (width_is a w.0 w.1 fits))
 
 -- the changes of writes that fit keep the widths
 pub keep_widths : (a : Store) (ws : List (ℕ × Vector)) → AreWritesOf a ws → KeepWidths (changes_made a ws)
@@ -109,5 +109,5 @@ keep_widths a (w ∷ ws) fit =
     let first : FitsRegister (map length a) w.0 w.1 = All-head P w ws fit in
     let same : map length (given a w) ≡ map length a = widths_if a w (same_vector (value_of a w.0) w.1) first in
     let rest : AreWritesOf (given a w) ws = subst (λ (ns : List ℕ). All (λ (u : ℕ × Vector). FitsRegister ns u.0 u.1) ws) (sym same) (All-tail P w ws fit) in
-    All-append (λ (c : ValueChange). length c.before ≡ length c.after) (change_made (value_of a w.0) w) (changes_made (given a w) ws)
+    All-append (λ (c : RegisterChange). length c.before ≡ length c.after) (change_made (value_of a w.0) w) (changes_made (given a w) ws)
     (keeps_if a w (same_vector (value_of a w.0) w.1) first) (keep_widths (given a w) ws rest)

@@ -9,7 +9,7 @@ use Rattle.model.specs.declared.entry.Entry.TheVariants as entries
 use Rattle.model.specs.declared.entry.Refusal.{Refusal}
 use Rattle.model.specs.declared.entry.Refusal.TheVariants.{Finished}
 use Rattle.model.specs.Design.{Design, Trigger}
-use Rattle.model.specs.Turns.{Remainder}
+use Rattle.model.specs.Turns.{Remainder, contains}
 use Rattle.model.specs.States.{Action, Evaluate, Event, State, triggers_of, is_evaluation}
 use Rattle.model.specs.Runs.{Effect, action_in, has_any, turn_effect, update_effect, action_effect, refused_where, turn_refusal, update_refusal, refusal, least, effect, unless_refused, step}
 use Rattle.model.proofs.RunLaws.{where_none}
@@ -23,10 +23,12 @@ use Rattle.regions.specs.Order.{InOrder, IsSoundAction, IsOrdered}
 use Rattle.regions.specs.StepLogs.{IsLogFor}
 use Rattle.regions.specs.Machine.{MachineView, IsTurnLogged, IsChange}
 use Rattle.regions.proofs.Permitted.{other_update}
-use Rattle.footprints.specs.Footprints.{Footprint, changes_made, woken_by, awaited_by, assigned, turn_footprint, update_footprint, action_footprint, footprint}
+use Rattle.footprints.specs.Footprints.{Footprint, changes_made, woken_by_changes, awaited_by_all, assigned, turn_footprint, update_footprint, action_footprint, footprint}
 use Rattle.certificates.specs.Notes.{NoteView, TellsOf}
+use Rattle.heldmoves.specs.WithoutHeld.{without_held}
+use Rattle.heldmoves.proofs.LeftAside.{found_there, turn_same, without_none}
 use Rattle.noted.specs.declared.fault.NotedFault.{NotedFault}
-use Rattle.noted.specs.NotedSteps.{note_of, IsNoted, IsTakenNoted, IsLeftOut, awaited_at, with_effects, own_note, IsTurnNoted, IsFirstUpdated}
+use Rattle.noted.specs.NotedSteps.{note_of, IsEntryNoted, IsTakenNoted, IsLeftOut, awaited_at, with_effects, own_note, IsTurnNoted, IsFirstUpdated, IsOfOther}
 
 -- a footprint's note tells of it
 
@@ -51,55 +53,70 @@ tells_of f =
     }
 
 noted_by : (class : ℕ → ℕ) (code : Compiled) (s : State) (entry : Entry) (note : NoteView) (f : Footprint) → footprint class (design_of code) s entry ≡ Some f → note ≡ note_of f
-    → IsNoted class code s entry note
+    → IsEntryNoted class code s entry note
 noted_by class code s entry note f there is =
     record { own = f; own_is = there; is = is; tells = subst (λ (n : NoteView). TellsOf n f) (sym is) (tells_of f) }
 
 -- a turn
-pub turn_noted : (class : ℕ → ℕ) (code : Compiled) (s : State) (n p : ℕ) (note : NoteView) → action_in s.active n ≡ Some (Evaluate p) → IsTurnNoted class code s p note
-    → IsNoted class code s (entries.Turn n) note
-turn_noted class code s n p note action h =
-    noted_by class code s (entries.Turn n) note (turn_footprint class s p h.turn)
-    (ap (action_footprint class (design_of code) s) action ∙ ap (option_map (turn_footprint class s p)) h.is_turn) h.is
+pub turn_noted : (class : ℕ → ℕ) (code : Compiled) (held : ℕ → Bool) (s : State) (n p : ℕ) (note : NoteView) → action_in s.active n ≡ Some (Evaluate p) → held p ≡ false → IsTurnNoted class code (without_held held s) p note
+    → IsEntryNoted class code (without_held held s) (entries.Turn n) note
+turn_noted class code held s n p note action other h =
+    let t : State = without_held held s in
+    noted_by class code t (entries.Turn n) note (turn_footprint class t p h.turn)
+    (ap (action_footprint class (design_of code) t) (found_there held n (Evaluate p) s.active action other) ∙ ap (option_map (turn_footprint class t p)) h.is_turn) h.is
 
 -- an update
-pub update_noted : (class : ℕ → ℕ) (code : Compiled) (s : State) (n r : ℕ) (v : Vector) (note : NoteView) → action_in s.active n ≡ Some (Action.Update r v) → note ≡ note_of (update_footprint class s r v)
-    → IsNoted class code s (entries.Update n) note
-update_noted class code s n r v note action is =
-    noted_by class code s (entries.Update n) note (update_footprint class s r v) (ap (action_footprint class (design_of code) s) action) is
+pub update_noted : (class : ℕ → ℕ) (code : Compiled) (held : ℕ → Bool) (s : State) (n r : ℕ) (v : Vector) (note : NoteView) → action_in s.active n ≡ Some (Action.Update r v)
+    → note ≡ note_of (update_footprint class (without_held held s) r v) → IsEntryNoted class code (without_held held s) (entries.Update n) note
+update_noted class code held s n r v note action is =
+    let t : State = without_held held s in
+    noted_by class code t (entries.Update n) note (update_footprint class t r v) (ap (action_footprint class (design_of code) t) (found_there held n (Action.Update r v) s.active action refl)) is
+
+-- without what is held where nothing is, the state is as it is
+pub noted_alone : (class : ℕ → ℕ) (code : Compiled) (s : State) (entry : Entry) (note : NoteView) → IsEntryNoted class code (without_held (contains []) s) entry note → IsEntryNoted class code s entry note
+noted_alone class code s entry note h = subst (λ (t : State). IsEntryNoted class code t entry note) (without_none (contains []) s (λ p. refl)) h
+
+pub none_held : (s : State) (entry : Entry) → IsOfOther (contains []) s entry
+none_held s (entries.Turn n) = λ p at. refl
+none_held s (entries.Update n) = tt
+none_held s entries.ActivateInactive = tt
+none_held s entries.ActivateNba = tt
+none_held s entries.ActivateMonitor = tt
+none_held s (entries.Advance time) = tt
 
 -- what a log says is what its turn does
-pub log_noted : (class : ℕ → ℕ) (code : Compiled) (controls : List (List Trigger)) (s : State) (p : ℕ) (log : LogView) (note : NoteView) → IsLogFor code s p log → controls ≡ controls_of code
-    → note ≡ with_effects (own_note class controls s p log) s log.writes → IsTurnNoted class code s p note
-log_noted class code controls s p log note h same is =
+pub log_noted : (class : ℕ → ℕ) (code : Compiled) (controls : List (List Trigger)) (held : ℕ → Bool) (s : State) (p : ℕ) (log : LogView) (note : NoteView) → IsLogFor code s p log → controls ≡ controls_of code
+    → note ≡ with_effects (own_note class controls (without_held held s) p log) (without_held held s) log.writes → IsTurnNoted class code (without_held held s) p note
+log_noted class code controls held s p log note h same is =
     let l = h.is_log in
     let t = h.turn in
-    let ps = s.processes in
+    let u = without_held held s in
+    let ps = u.processes in
     let wait = ap (λ (c : List (List Trigger)). wait_of c log.suspend) same ∙ l.wait in
-    let ended : awaited_by ps (p ∷ []) ++ awaited_by ps (woken_by (changes_made s.store log.writes) ps) ≡ awaited_by ps (p ∷ woken_by (changes_made s.store t.writes) ps) =
-    ap (λ ts. ts ++ awaited_by ps (woken_by (changes_made s.store log.writes) ps)) (append-nil (awaited_at ps p))
-    ∙ ap (λ (ws : List (ℕ × Vector)). awaited_by ps (p ∷ woken_by (changes_made s.store ws) ps)) l.writes in
-    let whole : with_effects (own_note class controls s p log) s log.writes ≡ note_of (turn_footprint class s p t) =
+    let ended : awaited_by_all ps (p ∷ []) ++ awaited_by_all ps (woken_by_changes (changes_made s.store log.writes) ps) ≡ awaited_by_all ps (p ∷ woken_by_changes (changes_made s.store t.writes) ps) =
+    ap (λ ts. ts ++ awaited_by_all ps (woken_by_changes (changes_made s.store log.writes) ps)) (append-nil (awaited_at ps p))
+    ∙ ap (λ (ws : List (ℕ × Vector)). awaited_by_all ps (p ∷ woken_by_changes (changes_made s.store ws) ps)) l.writes in
+    let whole : with_effects (own_note class controls u p log) u log.writes ≡ note_of (turn_footprint class u p t) =
     λ k. record {
-      owner = (turn_footprint class s p t).owner;
+      owner = (turn_footprint class u p t).owner;
       uses = l.uses k;
       writes = map (λ (w : ℕ × Vector). w.0) (l.writes k);
       changes = changes_made s.store (l.writes k);
       awaits = triggers_of (wait k);
-      woken = woken_by (changes_made s.store (l.writes k)) ps;
+      woken = woken_by_changes (changes_made s.store (l.writes k)) ps;
       ended = ended k;
       assigns = assigned class (l.nbas k);
       prints = has_any (l.lines k);
       strobes = has_any (l.strobes k);
       finishes = l.finish k;
     } in
-    record { turn = t; is_turn = h.is_turn; is = is ∙ whole }
+    record { turn = t; is_turn = turn_same (design_of code) held s p ∙ h.is_turn; is = is ∙ whole }
 
 -- the code stays, whatever came of an entry
-pub code_stays : (class : ℕ → ℕ) (old : MachineView) (entry : Entry) (new : MachineView) (note : NoteView) (r : Result (Unit {0}) NotedFault)
-    → MatchResult r (λ _. IsTakenNoted class old entry new note) (IsLeftOut old entry new) → new.code ≡ old.code
-code_stays class old entry new note (Ok x) took = took.code
-code_stays class old entry new note (Err fault) left = ap (λ (m : MachineView). m.code) left.same
+pub code_stays : (class : ℕ → ℕ) (held : ℕ → Bool) (old : MachineView) (entry : Entry) (new : MachineView) (note : NoteView) (r : Result (Unit {0}) NotedFault)
+    → MatchResult r (λ _. IsTakenNoted class held old entry new note) (IsLeftOut old entry new) → new.code ≡ old.code
+code_stays class held old entry new note (Ok x) took = took.code
+code_stays class held old entry new note (Err fault) left = ap (λ (m : MachineView). m.code) left.same
 
 -- such an entry has a step
 

@@ -6,7 +6,7 @@ ghost use Rattle.footprints.specs.Footprints.{change_made, changes_made};
 ghost use Rattle.noted.specs.NotedSteps.{AreWritesOf};
 
 use certificates::changes::{Changes, NotedChange};
-use certificates::numbers::Numbers;
+use certificates::numbers::MaskedNumbers;
 use design::RegId;
 use logic4::bits::Bits;
 use regions::PlainStore;
@@ -50,7 +50,7 @@ fn note_change(
 
 /// Notes the registers that are written.
 pub(crate) fn note_writes(
-    registers: &mut Numbers,
+    registers: &mut MaskedNumbers,
     writes: &[(RegId, Bits)],
 ) -> Result<(), AllocError>
     ensures { OnOk result (registers.new ≡ registers.old ++ map (λ w. w.0) writes.now) }

@@ -6,7 +6,7 @@
 //! 3. The machine takes the entry, a turn without evaluating it again.
 //!
 //! What the layer above uses: `take_noted`, whose contract is that it is the machine's own step, and that the note is the footprint of
-//! the entry (`specs/NotedSteps`).
+//! the entry (`specs/NotedSteps`); and `take_noted_beside`, whose note leaves aside some processes that are held.
 #![tactic(auto)]
 
 mod changes;
@@ -16,4 +16,4 @@ mod turns;
 mod waking;
 
 pub use fault::NotedFault;
-pub use taking::take_noted;
+pub use taking::{take_noted, take_noted_beside};

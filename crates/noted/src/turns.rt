@@ -1,19 +1,21 @@
 //! What turns and updates have to do with other steps.
 ghost use Rattle.std.specs.Prelude.{◌≡◌, ◌++◌, map, OnOk};
-ghost use Rattle.model.specs.States.{triggers_of};
 ghost use Rattle.design.specs.Fits.{FitsRegister};
-ghost use Rattle.loose.specs.Classes.{class_in};
-ghost use Rattle.turn.specs.Reads.{registers};
-ghost use Rattle.turn.specs.TurnLogs.{assignment_of, wait_of};
 ghost use Rattle.footprints.specs.Footprints.{assigned, update_footprint};
+ghost use Rattle.heldmoves.specs.WithoutHeld.{without_held};
+ghost use Rattle.loose.specs.Classes.{class_in};
+ghost use Rattle.model.specs.States.{triggers_of};
+ghost use Rattle.noted.specs.NotedSteps.{AreWritesOf, HasNoEffects, IsTurnNoted, note_of, own_note, with_effects};
+ghost use Rattle.model.specs.Turns.{contains};
 ghost use Rattle.regions.specs.Machine.{state_at};
 ghost use Rattle.regions.specs.StepLogs.{IsLogFor};
-ghost use Rattle.noted.specs.NotedSteps.{AreWritesOf, HasNoEffects, IsTurnNoted, note_of, own_note, with_effects};
+ghost use Rattle.turn.specs.Reads.{registers};
+ghost use Rattle.turn.specs.TurnLogs.{assignment_of, wait_of};
 
 use crate::changes::{note_changes, note_writes};
 use crate::waking::{note_ended, note_events, note_woken};
-use certificates::note::Note;
-use certificates::numbers::Numbers;
+use certificates::note::StepNote;
+use certificates::numbers::MaskedNumbers;
 use certificates::triggers::Triggers;
 use design::{Control, RegId};
 use indexmap::IndexMap;
@@ -34,7 +36,7 @@ fn class_of(classes: &[u32], register: RegId) -> u32
 }
 
 // Notes the registers that a turn used without having written them.
-fn note_uses(uses: &mut Numbers, reads: &IndexMap<RegId, Seen>) -> Result<(), AllocError>
+fn note_uses(uses: &mut MaskedNumbers, reads: &IndexMap<RegId, Seen>) -> Result<(), AllocError>
     ensures { OnOk result (uses.new ≡ uses.old ++ registers reads.now.entries) }
 {
     for place in 0..reads.len() {
@@ -77,32 +79,35 @@ fn note_awaits(
     }
 }
 
-// Notes what writes do: the registers, the changes, the processes that these wake, and what those wait for.
+// Notes what writes do: the registers, the changes, the processes that these wake, and what those wait for. Held processes are left
+// aside.
 fn note_effects(
-    note: &mut Note,
+    note: &mut StepNote,
     machine: &Machine<'_>,
+    held: &[u32],
     writes: &[(RegId, Bits)],
 ) -> Result<(), AllocError>
     requires writes { AreWritesOf machine.now.values writes.now }
     requires none { HasNoEffects note.old }
-    ensures { OnOk result (note.new ≡ with_effects note.old (state_at machine.now) writes.now) }
+    ensures { OnOk result (note.new ≡ with_effects note.old (without_held (contains held.now) (state_at machine.now)) writes.now) }
 {
     note_writes(&mut note.writes, writes)?;
     note_changes(&mut note.changes, machine.store(), writes)?;
-    note_woken(&mut note.woken, machine, &note.changes)?;
-    note_ended(&mut note.ended, machine, note.woken.as_slice())
+    note_woken(&mut note.woken, machine, held, &note.changes)?;
+    note_ended(&mut note.ended, machine, held, note.woken.as_slice())
 }
 
 // Notes what a turn has of its own: what it uses, what its process goes on to wait for, what it waited for before, what it assigns,
 // and whether it prints, meets `$strobe`, and meets `$finish`.
 fn note_own(
-    note: &mut Note,
+    note: &mut StepNote,
     machine: &Machine<'_>,
     classes: &[u32],
+    held: &[u32],
     process: u32,
     log: &TurnLog,
 ) -> Result<(), AllocError>
-    ensures { OnOk result (note.new ≡ own_note (class_in classes.now) machine.now.core.controls (state_at machine.now) process log.now) }
+    ensures { OnOk result (note.new ≡ own_note (class_in classes.now) machine.now.core.controls (without_held (contains held.now) (state_at machine.now)) process log.now) }
 {
     note.begin(LooseTransition::Process(process));
     note.prints = !log.lines().is_empty();
@@ -110,38 +115,40 @@ fn note_own(
     note.finishes = log.is_finish();
     note_uses(&mut note.uses, log.reads())?;
     note_awaits(&mut note.awaits, machine.state().controls(), log.suspend())?;
-    note_ended(&mut note.ended, machine, &[process])?;
+    note_ended(&mut note.ended, machine, held, &[process])?;
     note_assigns(&mut note.assigns, classes, log.nbas())
 }
 
-/// Notes a turn of a process, which the log is.
+/// Notes a turn of a process, which the log is. Held processes are left aside.
 pub(crate) fn note_turn(
     machine: &Machine<'_>,
     process: u32,
     log: &TurnLog,
     classes: &[u32],
-    note: &mut Note,
+    held: &[u32],
+    note: &mut StepNote,
 ) -> Result<(), AllocError>
     requires { IsLogFor machine.now.code (state_at machine.now) process log.now }
-    ensures { OnOk result (IsTurnNoted (class_in classes.now) machine.now.code (state_at machine.now) process note.new) }
+    ensures { OnOk result (IsTurnNoted (class_in classes.now) machine.now.code (without_held (contains held.now) (state_at machine.now)) process note.new) }
 {
     machine.stands();
-    note_own(note, machine, classes, process, log)?;
-    note_effects(note, machine, log.writes())
+    note_own(note, machine, classes, held, process, log)?;
+    note_effects(note, machine, held, log.writes())
 }
 
-/// Notes an update of a register to a value.
+/// Notes an update of a register to a value. Held processes are left aside.
 pub(crate) fn note_update(
     machine: &Machine<'_>,
     register: RegId,
     value: Bits,
     classes: &[u32],
-    note: &mut Note,
+    held: &[u32],
+    note: &mut StepNote,
 ) -> Result<(), AllocError>
     requires { FitsRegister machine.now.code.widths register value }
-    ensures { OnOk result (note.new ≡ note_of (update_footprint (class_in classes.now) (state_at machine.now) register value)) }
+    ensures { OnOk result (note.new ≡ note_of (update_footprint (class_in classes.now) (without_held (contains held.now) (state_at machine.now)) register value)) }
 {
     machine.stands();
     note.begin(LooseTransition::FirstOf(class_of(classes, register)));
-    note_effects(note, machine, &[(register, value)])
+    note_effects(note, machine, held, &[(register, value)])
 }

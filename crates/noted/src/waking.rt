@@ -1,13 +1,15 @@
 //! The processes that changes wake, and what processes wait for.
-ghost use Rattle.std.specs.Prelude.{◌≡◌, ◌<◌, [], ◌∷◌, ◌++◌, map, length, if◌then◌else◌, OnOk};
-ghost use Rattle.regions.specs.ProcessWaking.{triggers_at};
+ghost use Rattle.std.specs.Prelude.{◌≡◌, ◌<◌, ℕ, [], ◌∷◌, ◌++◌, map, length, if◌then◌else◌, Option, None, OnOk};
+ghost use Rattle.certificates.specs.Changes.{register_change_of};
+ghost use Rattle.footprints.specs.Footprints.{matches_any, woken_by_changes, awaited_by_all};
+ghost use Rattle.heldmoves.specs.WithoutHeld.{without_held};
+ghost use Rattle.model.specs.Turns.{contains};
+ghost use Rattle.noted.specs.NotedSteps.{KeepWidths, awaited_at, unless_among};
 ghost use Rattle.regions.specs.Machine.{state_at};
-ghost use Rattle.certificates.specs.Changes.{change_of};
-ghost use Rattle.footprints.specs.Footprints.{matches_any, woken_by, awaited_by};
-ghost use Rattle.noted.specs.NotedSteps.{KeepWidths, awaited_at};
+ghost use Rattle.regions.specs.ProcessWaking.{triggers_at};
 
 use certificates::changes::{Changes, NotedChange};
-use certificates::numbers::Numbers;
+use certificates::numbers::MaskedNumbers;
 use certificates::triggers::Triggers;
 use design::{Control, Trigger};
 use logic4::bits::Bits;
@@ -16,8 +18,8 @@ use std::alloc::AllocError;
 
 // Whether an event control waits for one of these changes (9.7.2).
 fn is_met(control: &Control, changes: &[NotedChange]) -> bool
-    requires { KeepWidths (map change_of changes.now) }
-    ensures { result ≡ matches_any control.now (map change_of changes.now) }
+    requires { KeepWidths (map register_change_of changes.now) }
+    ensures { result ≡ matches_any control.now (map register_change_of changes.now) }
 {
     for change in changes {
         let edge = Bits::edge(change.before, change.after);
@@ -42,6 +44,23 @@ fn is_woken(controls: &[Control], waits: Option<usize>, changes: &Changes) -> bo
     }
 }
 
+// Whether a process is one of these.
+fn is_one(held: &[u32], process: u32) -> bool
+    ensures { result ≡ contains held.now process }
+{
+    held.iter().any(|other| *other == process)
+}
+
+// The event control at which a process waits, where these are held: they wait at none.
+fn waits_beside(held: &[u32], process: u32, waits: Option<usize>) -> Option<usize>
+    ensures { result ≡ unless_among held.now process waits }
+{
+    if is_one(held, process) {
+        return None;
+    }
+    waits
+}
+
 // The number of the process at a place.
 fn number_at(machine: &Machine<'_>, place: usize) -> u32
     requires { place < length machine.now.core.processes }
@@ -54,7 +73,7 @@ fn number_at(machine: &Machine<'_>, place: usize) -> u32
 }
 
 // Notes a process where it is woken.
-fn note_where(woken: &mut Numbers, process: u32, is_woken: bool) -> Result<(), AllocError>
+fn note_where(woken: &mut MaskedNumbers, process: u32, is_woken: bool) -> Result<(), AllocError>
     ensures { OnOk result (woken.new ≡ woken.old ++ (if is_woken then process ∷ [] else [])) }
 {
     if is_woken {
@@ -63,14 +82,15 @@ fn note_where(woken: &mut Numbers, process: u32, is_woken: bool) -> Result<(), A
     Ok(())
 }
 
-/// Notes the processes that changes wake.
+/// Notes the processes that changes wake, but for those that are held.
 pub(crate) fn note_woken(
-    woken: &mut Numbers,
+    woken: &mut MaskedNumbers,
     machine: &Machine<'_>,
+    held: &[u32],
     changes: &Changes,
 ) -> Result<(), AllocError>
     requires { KeepWidths changes.now }
-    ensures { OnOk result (woken.new ≡ woken.old ++ woken_by changes.now (state_at machine.now).processes) }
+    ensures { OnOk result (woken.new ≡ woken.old ++ woken_by_changes changes.now (without_held (contains held.now) (state_at machine.now)).processes) }
 {
     // Turns that only make nonblocking assignments change nothing.
     if changes.as_slice().is_empty() {
@@ -80,7 +100,7 @@ pub(crate) fn note_woken(
     let processes = machine.state().processes();
     for place in 0..processes.len() {
         let process = number_at(machine, place);
-        let waits = processes[place].waits;
+        let waits = waits_beside(held, process, processes[place].waits);
         note_where(woken, process, is_woken(controls, waits, changes))?;
     }
     Ok(())
@@ -123,17 +143,25 @@ fn control_of(machine: &Machine<'_>, process: u32) -> Option<usize>
     }
 }
 
-/// Notes what the processes with these numbers wait for.
+// The same, but for a process that is held: it waits at none.
+fn control_beside(machine: &Machine<'_>, held: &[u32], process: u32) -> Option<usize>
+    ensures { triggers_at machine.now.core.controls result ≡ awaited_at (without_held (contains held.now) (state_at machine.now)).processes process }
+{
+    waits_beside(held, process, control_of(machine, process))
+}
+
+/// Notes what the processes with these numbers wait for, but for those that are held.
 pub(crate) fn note_ended(
     list: &mut Triggers,
     machine: &Machine<'_>,
+    held: &[u32],
     processes: &[u32],
 ) -> Result<(), AllocError>
-    ensures { OnOk result (list.new ≡ list.old ++ awaited_by (state_at machine.now).processes processes.now) }
+    ensures { OnOk result (list.new ≡ list.old ++ awaited_by_all (without_held (contains held.now) (state_at machine.now)).processes processes.now) }
 {
     let controls = machine.state().controls();
     for process in processes {
-        note_control(list, controls, control_of(machine, *process))?;
+        note_control(list, controls, control_beside(machine, held, *process))?;
     }
     Ok(())
 }

@@ -10,9 +10,9 @@ use Rattle.model.specs.Laws.{evaluates, evaluations_in}
 use Rattle.orders.specs.Alike.{IsInOrder, updates_in}
 use Rattle.orders.specs.Apart.{all_given}
 use Rattle.orders.proofs.EventLists.{evaluations-taken, own_evaluation}
-use Rattle.phases.specs.Phase.{Block, IsActive, IsBlock, continuation_of, waits_for_register}
+use Rattle.phases.specs.Phase.{Block, IsActive, IsBlock, StandsSince, continuation_of, waits_for_register}
 use Rattle.phases.proofs.Changes.{woke, awake, one_where, Changed, changed}
-use Rattle.phases.proofs.Members.{Standing, stands_changed, unmoved}
+use Rattle.phases.proofs.Members.{stands_changed, unmoved}
 
 -- what several changes leave as it is
 
@@ -62,13 +62,13 @@ or_right : (a b : Bool) → b ≡ true → (a || b) ≡ true
 or_right true b h = refl
 or_right false b h = h
 
-pub stands_after : (design : Design) (s : State) (ws : List (ℕ × Vector)) (p : ℕ) (b : Block) → IsBlock design p b
-    → ((r : ℕ) → contains (map (λ (w : ℕ × Vector). w.0) ws) r ≡ true → contains b.outputs r ≡ false) → Standing design s p b → Standing design (change_all s ws) p b
-stands_after design s [] p b block apart h = h
-stands_after design s (w ∷ ws) p b block apart h =
+pub stands_after : (design : Design) (start s : State) (ws : List (ℕ × Vector)) (p : ℕ) (b : Block) → IsBlock design p b
+    → ((r : ℕ) → contains (map (λ (w : ℕ × Vector). w.0) ws) r ≡ true → contains b.outputs r ≡ false) → StandsSince design start s p b → StandsSince design start (change_all s ws) p b
+stands_after design start s [] p b block apart h = h
+stands_after design start s (w ∷ ws) p b block apart h =
     let first : contains b.outputs w.0 ≡ false = apart w.0 (or_left (w.0 == w.0) (contains (map (λ (w : ℕ × Vector). w.0) ws) w.0) (eq-eqb w.0 w.0 refl)) in
-    stands_after design (change s w.0 w.1) ws p b block (λ r is. apart r (or_right (w.0 == r) (contains (map (λ (w : ℕ × Vector). w.0) ws) r) is))
-    (stands_changed design s (change s w.0 w.1) w.0 w.1 p b block first (changed s w.0 w.1) h)
+    stands_after design start (change s w.0 w.1) ws p b block (λ r is. apart r (or_right (w.0 == r) (contains (map (λ (w : ℕ × Vector). w.0) ws) r) is))
+    (stands_changed design start s (change s w.0 w.1) w.0 w.1 p b block first (changed s w.0 w.1) h)
 
 -- a process that waits for none of the registers is as it was
 
@@ -109,9 +109,12 @@ taken_update s n r q v order at =
     let whole : evaluations_in q s.active ≡ 0 + evaluations_in q (without n s.active) = evaluations-taken n q 0 s.next_event (Action.Update r v) s.active order.active at in
     omega (arith, whole)
 
-pub stands_taken : (design : Design) (s : State) (n p : ℕ) (b : Block) → evaluations_in p (without n s.active) ≡ evaluations_in p s.active → Standing design s p b → Standing design (taking n s) p b
-stands_taken design s n p b same (inl (evaluations, continuation)) = inl (same ∙ evaluations, continuation)
-stands_taken design s n p b same (inr (evaluations, continuation, consistent)) = inr (same ∙ evaluations, continuation, consistent)
+pub stands_taken : (design : Design) (start s : State) (n p : ℕ) (b : Block) → evaluations_in p (without n s.active) ≡ evaluations_in p s.active → StandsSince design start s p b → StandsSince design start (taking n s) p b
+stands_taken design start s n p b same (inl (evaluations, continuation)) = inl (same ∙ evaluations, continuation)
+stands_taken design start s n p b same (inr (inl (evaluations, continuation, consistent))) =
+    inr (inl (same ∙ evaluations, continuation, consistent))
+stands_taken design start s n p b same (inr (inr h)) =
+    inr (inr (record { waits = (same ∙ h.waits.0, h.waits.1); waited = h.waited; time = h.time; registers = h.registers; inputs = h.inputs; outputs = h.outputs }))
 
 -- a process whose evaluation is among the active events is active
 

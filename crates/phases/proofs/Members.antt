@@ -18,13 +18,24 @@ use Rattle.model.specs.States.{State, edge_matches, wakes, is_woken}
 use Rattle.orders.specs.Apart.{AgreeOn, given, all_given}
 use Rattle.orders.proofs.TurnFrame.{turn_has_frame}
 use Rattle.orders.proofs.Stores.{same_store, length_given, given_other, length_all, all_other}
-use Rattle.phases.specs.Phase.{Block, triggers, IsBlock, continuation_of, IsConsistent, IsTurnPending, HasSettled, waits_for_register}
+use Rattle.phases.specs.Phase.{Block, triggers, IsBlock, continuation_of, IsConsistent, IsTurnPending, IsBlockWaiting, IsUntouched, StandsSince, waits_for_register}
 use Rattle.phases.proofs.Values.{written_same}
 use Rattle.phases.proofs.Changes.{woke, awake, one_where, Changed}
 
--- a member of a phase is pending, or settled
-abbrev pub Standing : Design → State → ℕ → Block → Type 0
-Standing design s p b = IsTurnPending s p b ⊎ HasSettled design s p b
+-- a member of a phase is pending, or waits
+abbrev pub Standing : State → ℕ → Block → Type 0
+Standing s p b = IsTurnPending s p b ⊎ IsBlockWaiting s p b
+
+-- where a state begins, one that waits is untouched
+pub stands_first : (design : Design) (s : State) (p : ℕ) (b : Block) → Standing s p b → StandsSince design s s p b
+stands_first design s p b (inl h) = inl h
+stands_first design s p b (inr h) =
+    inr (inr (record { waits = h; waited = h; time = refl; registers = refl; inputs = λ r there. refl; outputs = λ r there. refl }))
+
+pub stands_now : (design : Design) (start s : State) (p : ℕ) (b : Block) → StandsSince design start s p b → Standing s p b
+stands_now design start s p b (inl h) = inl h
+stands_now design start s p b (inr (inl (none, continuation, consistent))) = inr (none, continuation)
+stands_now design start s p b (inr (inr h)) = inr h.waits
 
 -- what agrees on the inputs, and has the outputs that were consistent, is consistent
 
@@ -112,34 +123,50 @@ pub asleep : (s : State) (r : ℕ) (v : Vector) (p : ℕ) (rest : Remainder) →
 asleep s r v p rest is =
     ap (λ x. not (same_vector (value_of s.store r) v) && is_woken r (value_of s.store r) v x) is ∙ and_none (not (same_vector (value_of s.store r) v))
 
-settled_if : (design : Design) (s f : State) (r : ℕ) (v : Vector) (p : ℕ) (b : Block) (is : Bool) → woke s r v p ≡ is → IsBlock design p b → contains b.outputs r ≡ false → Changed s r v f
-    → HasSettled design s p b → Standing design f p b
-settled_if design s f r v p b true is block none c (evaluations, continuation, consistent) =
+pub untouched_still : (start s f : State) (p : ℕ) (b : Block) → f.time ≡ s.time → length s.store ≡ length f.store → IsBlockWaiting f p b → AgreeOn b.inputs s.store f.store → AgreeOn b.outputs s.store f.store
+    → IsUntouched start s p b → IsUntouched start f p b
+untouched_still start s f p b time len waits inputs outputs h =
+    record {
+      waits = waits;
+      waited = h.waited;
+      time = time ∙ h.time;
+      registers = sym len ∙ h.registers;
+      inputs = λ r there. h.inputs r there ∙ inputs r there;
+      outputs = λ r there. h.outputs r there ∙ outputs r there;
+    }
+
+-- one that waits is woken, or waits still, with the values that it had
+waits_if : (design : Design) (start s f : State) (r : ℕ) (v : Vector) (p : ℕ) (b : Block) (is : Bool) → woke s r v p ≡ is → contains b.outputs r ≡ false → Changed s r v f → IsBlockWaiting s p b
+    → (IsBlockWaiting f p b → length s.store ≡ length f.store → AgreeOn b.inputs s.store f.store → AgreeOn b.outputs s.store f.store → StandsSince design start f p b) → StandsSince design start f p b
+waits_if design start s f r v p b true is none c (evaluations, continuation) later =
     inl (
       c.evaluations p ∙ ap (λ n. n + one_where (woke s r v p)) evaluations ∙ ap (λ x. 0 + one_where x) is,
       c.processes p ∙ ap (λ x. awake x (continuation_of s p)) is ∙ ap (λ x. awake true x) continuation,
     )
-settled_if design s f r v p b false is block none c (evaluations, continuation, consistent) =
+waits_if design start s f r v p b false is none c (evaluations, continuation) later =
     let still : (not (same_vector (value_of s.store r) v) && wakes (triggers b) r (value_of s.store r) v) ≡ false =
     ap (λ x. not (same_vector (value_of s.store r) v) && is_woken r (value_of s.store r) v x) (sym continuation) ∙ is in
     let len : length s.store ≡ length f.store = sym (ap length c.store ∙ length_given s.store (r, v)) in
     let inputs : AgreeOn b.inputs s.store f.store = rw c.store (asleep_if b.inputs s.store r v (same_vector (value_of s.store r) v) refl still) in
     let outputs : AgreeOn b.outputs s.store f.store = rw c.store (agree_if b.outputs s.store r v none) in
-    inr (
-      c.evaluations p ∙ ap (λ n. n + one_where (woke s r v p)) evaluations ∙ ap (λ x. 0 + one_where x) is,
-      c.processes p ∙ ap (λ x. awake x (continuation_of s p)) is ∙ continuation,
-      still_consistent design s f p b block c.time len inputs outputs consistent,
-    )
+    later
+    (c.evaluations p ∙ ap (λ n. n + one_where (woke s r v p)) evaluations ∙ ap (λ x. 0 + one_where x) is, c.processes p ∙ ap (λ x. awake x (continuation_of s p)) is ∙ continuation)
+    len inputs outputs
 
-pub stands_changed : (design : Design) (s f : State) (r : ℕ) (v : Vector) (p : ℕ) (b : Block) → IsBlock design p b → contains b.outputs r ≡ false → Changed s r v f
-    → Standing design s p b → Standing design f p b
-stands_changed design s f r v p b block none c (inl (evaluations, continuation)) =
+pub stands_changed : (design : Design) (start s f : State) (r : ℕ) (v : Vector) (p : ℕ) (b : Block) → IsBlock design p b → contains b.outputs r ≡ false → Changed s r v f
+    → StandsSince design start s p b → StandsSince design start f p b
+stands_changed design start s f r v p b block none c (inl (evaluations, continuation)) =
     let is : woke s r v p ≡ false = asleep s r v p b.rest continuation in
     inl (
       c.evaluations p ∙ ap (λ n. n + one_where (woke s r v p)) evaluations ∙ ap (λ x. 1 + one_where x) is,
       c.processes p ∙ ap (λ x. awake x (continuation_of s p)) is ∙ continuation,
     )
-stands_changed design s f r v p b block none c (inr h) = settled_if design s f r v p b (woke s r v p) refl block none c h
+stands_changed design start s f r v p b block none c (inr (inl (evaluations, continuation, consistent))) =
+    waits_if design start s f r v p b (woke s r v p) refl none c (evaluations, continuation)
+    (λ waits len inputs outputs. inr (inl (waits.0, waits.1, still_consistent design s f p b block c.time len inputs outputs consistent)))
+stands_changed design start s f r v p b block none c (inr (inr h)) =
+    waits_if design start s f r v p b (woke s r v p) refl none c h.waits
+    (λ waits len inputs outputs. inr (inr (untouched_still start s f p b c.time len waits inputs outputs h)))
 
 -- a process that waits for other registers
 

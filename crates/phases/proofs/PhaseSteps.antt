@@ -21,10 +21,10 @@ use Rattle.orders.specs.Apart.{AgreeOn, all_given, written_by}
 use Rattle.orders.proofs.EventLists.{updates_left, update_taken}
 use Rattle.orders.proofs.TurnFrame.{turn_has_frame}
 use Rattle.orders.proofs.Stores.{length_given, length_all, all_other}
-use Rattle.phases.specs.Phase.{IsActive, Block, triggers, ComputesOutputs, IsBlock, IsConsistent, IsTurnPending, HasSettled, waits_for_register, updated_in, IsOutput, IsPhase, TakesEvent}
+use Rattle.phases.specs.Phase.{IsActive, Block, triggers, ComputesOutputs, IsBlock, IsConsistent, IsTurnPending, HasSettled, StandsSince, waits_for_register, updated_in, IsOutput, IsPhase, TakesEvent}
 use Rattle.phases.proofs.Values.{all_both, written_again}
 use Rattle.phases.proofs.Changes.{Changed, changed}
-use Rattle.phases.proofs.Members.{Standing, stands_changed, unmoved}
+use Rattle.phases.proofs.Members.{Standing, stands_first, stands_now, stands_changed, unmoved}
 use Rattle.phases.proofs.Events.{AllChanged, all_changed, stands_after, Unmoved, one_unmoved, all_unmoved, taken_other, taken_own, taken_update, stands_taken}
 
 -- what a phase leaves as it is
@@ -44,6 +44,13 @@ Stays members block s f =
       values : (r : ℕ) → (IsOutput members block r → ⊥) → value_of (all_given f.store (updates_in f.active)) r ≡ value_of (all_given s.store (updates_in s.active)) r;
     }
 
+-- how the members stand since an earlier state
+abbrev pub AllStand : Design → List ℕ → (ℕ → Block) → State → State → Type 0
+AllStand design members block start s = (p : ℕ) → contains members p ≡ true → StandsSince design start s p (block p)
+
+pub all_first : (design : Design) (members : List ℕ) (block : ℕ → Block) (rank : ℕ → ℕ) (s : State) → IsPhase design s members block rank → AllStand design members block s s
+all_first design members block rank s phase p member = stands_first design s p (block p) (phase.stands p member)
+
 -- what stays a phase
 
 inside_if : (members : List ℕ) (s f : State) (q : ℕ) (is : Bool) → contains members q ≡ is → ((q : ℕ) → contains members q ≡ false → Unmoved s q f)
@@ -53,16 +60,15 @@ inside_if members s f q false is others inside active =
     let same : evaluations_in q f.active ≡ evaluations_in q s.active = (others q is).1 in
     inside q (omega (arith, same, active))
 
-pub phase_after : (design : Design) (members : List ℕ) (block : ℕ → Block) (rank : ℕ → ℕ) (s f : State) → IsPhase design s members block rank → Stays members block s f
-    → ((r : ℕ) → contains (updated_in f) r ≡ true → contains (updated_in s) r ≡ true)
-    → ((p : ℕ) → contains members p ≡ true → Standing design f p (block p)) → IsPhase design f members block rank
-phase_after design members block rank s f phase stays fewer stands =
+pub phase_after : (design : Design) (members : List ℕ) (block : ℕ → Block) (rank : ℕ → ℕ) (start s f : State) → IsPhase design s members block rank → Stays members block s f
+    → ((r : ℕ) → contains (updated_in f) r ≡ true → contains (updated_in s) r ≡ true) → AllStand design members block start f → IsPhase design f members block rank
+phase_after design members block rank start s f phase stays fewer stand =
     record {
       goes_on = stays.finished ∙ phase.goes_on;
       inside = λ q active. inside_if members s f q (contains members q) refl stays.others phase.inside active;
       exist = λ p is. rw stays.count (phase.exist p is);
       blocks = phase.blocks;
-      stands = stands;
+      stands = λ p is. stands_now design start f p (block p) (stand p is);
       single = phase.single;
       updates = λ r is p member. phase.updates r (fewer r is) p member;
       order = phase.order;
@@ -122,11 +128,22 @@ settled_after design s n p b t order at exists block (one, continuation) is c =
       own_consistent design s (with_continuation p t x) p b t block is c all.time all.store,
     )
 
-with_other : (design : Design) (x : State) (p q : ℕ) (t : turns.Turn) (b : Block) → q ≢ p → Standing design x q b → Standing design (with_continuation p t x) q b
-with_other design x p q t b other (inl (evaluations, continuation)) =
+with_other : (design : Design) (start x : State) (p q : ℕ) (t : turns.Turn) (b : Block) → q ≢ p → StandsSince design start x q b → StandsSince design start (with_continuation p t x) q b
+with_other design start x p q t b other (inl (evaluations, continuation)) =
     inl (evaluations, get_or-set_other x.processes p q (record { remainder = t.rest; triggers = triggers_of t.wait }) (record { remainder = []; triggers = [] }) other ∙ continuation)
-with_other design x p q t b other (inr (evaluations, continuation, consistent)) =
-    inr (evaluations, get_or-set_other x.processes p q (record { remainder = t.rest; triggers = triggers_of t.wait }) (record { remainder = []; triggers = [] }) other ∙ continuation, consistent)
+with_other design start x p q t b other (inr (inl (evaluations, continuation, consistent))) =
+    inr (inl (evaluations, get_or-set_other x.processes p q (record { remainder = t.rest; triggers = triggers_of t.wait }) (record { remainder = []; triggers = [] }) other ∙ continuation, consistent))
+with_other design start x p q t b other (inr (inr h)) =
+    inr
+    (inr
+    (record {
+      waits = (h.waits.0, get_or-set_other x.processes p q (record { remainder = t.rest; triggers = triggers_of t.wait }) (record { remainder = []; triggers = [] }) other ∙ h.waits.1);
+      waited = h.waited;
+      time = h.time;
+      registers = h.registers;
+      inputs = h.inputs;
+      outputs = h.outputs;
+    }))
 
 no_value : (members : List ℕ) (block : ℕ → Block) (p r : ℕ) (t : turns.Turn) (is : Bool) → contains (written_by t) r ≡ is → contains members p ≡ true → ComputesOutputs (block p) t
     → (IsOutput members block r → ⊥) → contains (written_by t) r ≡ false
@@ -182,36 +199,37 @@ turn_stays design members block rank s n p t order phase at member c =
     length_continuation (x ∷ ps) zero y = refl
     length_continuation (x ∷ ps) (suc p) y = ap suc (length_continuation ps p y)
 
-stands_turned : (design : Design) (members : List ℕ) (block : ℕ → Block) (rank : ℕ → ℕ) (s : State) (n p q : ℕ) (t : turns.Turn) (is : Bool) → (p == q) ≡ is → IsInOrder s
-    → IsPhase design s members block rank → action_in s.active n ≡ Some (Evaluate p) → contains members p ≡ true → contains members q ≡ true → IsTurnPending s p (block p)
-    → short_turn design p (block p).rest s.store s.time ≡ Some t → ComputesOutputs (block p) t → Standing design (with_continuation p t (change_all (taking n s) t.writes)) q (block q)
-stands_turned design members block rank s n p q t true is order phase at member member' pending at_t c =
+stands_turned : (design : Design) (members : List ℕ) (block : ℕ → Block) (rank : ℕ → ℕ) (start s : State) (n p q : ℕ) (t : turns.Turn) (is : Bool) → (p == q) ≡ is → IsInOrder s
+    → IsPhase design s members block rank → AllStand design members block start s → action_in s.active n ≡ Some (Evaluate p) → contains members p ≡ true → contains members q ≡ true → IsTurnPending s p (block p)
+    → short_turn design p (block p).rest s.store s.time ≡ Some t → ComputesOutputs (block p) t → StandsSince design start (with_continuation p t (change_all (taking n s) t.writes)) q (block q)
+stands_turned design members block rank start s n p q t true is order phase stand at member member' pending at_t c =
     let same : p ≡ q = eqb-true p q is in
-    subst (λ k. Standing design (with_continuation p t (change_all (taking n s) t.writes)) k (block k)) same
-    (inr (settled_after design s n p (block p) t order at (phase.exist p member) (phase.blocks p member) pending at_t c))
-stands_turned design members block rank s n p q t false is order phase at member member' pending at_t c =
+    subst (λ k. StandsSince design start (with_continuation p t (change_all (taking n s) t.writes)) k (block k)) same
+    (inr (inl (settled_after design s n p (block p) t order at (phase.exist p member) (phase.blocks p member) pending at_t c)))
+stands_turned design members block rank start s n p q t false is order phase stand at member member' pending at_t c =
     let differ : q ≢ p = unequal p q is in
-    let taken : Standing design (taking n s) q (block q) = stands_taken design s n q (block q) (taken_other s n p q s.next_event order at is) (phase.stands q member') in
-    let after : Standing design (change_all (taking n s) t.writes) q (block q) =
-    stands_after design (taking n s) t.writes q (block q) (phase.blocks q member')
+    let taken : StandsSince design start (taking n s) q (block q) = stands_taken design start s n q (block q) (taken_other s n p q s.next_event order at is) (stand q member') in
+    let after : StandsSince design start (change_all (taking n s) t.writes) q (block q) =
+    stands_after design start (taking n s) t.writes q (block q) (phase.blocks q member')
     (λ r wrote. phase.single p q r member member' (λ same. differ (sym same)) (c.writes r wrote)) taken in
-    with_other design (change_all (taking n s) t.writes) p q t (block q) differ after
+    with_other design start (change_all (taking n s) t.writes) p q t (block q) differ after
 
 -- what a step of a phase comes to
-abbrev pub Steps : Design → List ℕ → (ℕ → Block) → (ℕ → ℕ) → State → Effect → Type 0
-Steps design members block rank s f = (f.lines ≡ []) × IsPhase design f.state members block rank × Stays members block s f.state
+abbrev pub Steps : Design → List ℕ → (ℕ → Block) → (ℕ → ℕ) → State → State → Effect → Type 0
+Steps design members block rank start s f =
+    (f.lines ≡ []) × IsPhase design f.state members block rank × Stays members block s f.state × AllStand design members block start f.state
 
-pending_one : (design : Design) (s : State) (p : ℕ) (b : Block) → 1 ≤ evaluations_in p s.active → Standing design s p b → IsTurnPending s p b
-pending_one design s p b active (inl h) = h
-pending_one design s p b active (inr (none, continuation, consistent)) = absurd (omega (arith, active, none))
+pending_one : (s : State) (p : ℕ) (b : Block) → 1 ≤ evaluations_in p s.active → Standing s p b → IsTurnPending s p b
+pending_one s p b active (inl h) = h
+pending_one s p b active (inr (none, continuation)) = absurd (omega (arith, active, none))
 
-turn_steps : (design : Design) (members : List ℕ) (block : ℕ → Block) (rank : ℕ → ℕ) (s : State) (n p : ℕ) (turn : turns.Turn) → IsInOrder s → IsPhase design s members block rank
-    → action_in s.active n ≡ Some (Evaluate p) → turn_of design s p ≡ Some turn → Steps design members block rank s (turn_effect s n p turn)
-turn_steps design members block rank s n p turn order phase at is =
+turn_steps : (design : Design) (members : List ℕ) (block : ℕ → Block) (rank : ℕ → ℕ) (start s : State) (n p : ℕ) (turn : turns.Turn) → IsInOrder s → IsPhase design s members block rank
+    → AllStand design members block start s → action_in s.active n ≡ Some (Evaluate p) → turn_of design s p ≡ Some turn → Steps design members block rank start s (turn_effect s n p turn)
+turn_steps design members block rank start s n p turn order phase stand at is =
     let own : evaluations_in p s.active ≡ 1 + evaluations_in p (without n s.active) = taken_own s n p order at in
     let active : 1 ≤ evaluations_in p s.active = omega (arith, own) in
     let member : contains members p ≡ true = phase.inside p active in
-    let pending : IsTurnPending s p (block p) = pending_one design s p (block p) active (phase.stands p member) in
+    let pending : IsTurnPending s p (block p) = pending_one s p (block p) active (phase.stands p member) in
     let (t, at_t, c) = (phase.blocks p member).turns s.store s.time in
     let found : turn_of design s p ≡ Some t = ap (λ (x : Continuation). short_turn design p x.remainder s.store s.time) pending.1 ∙ at_t in
     let both : Some t ≡ Some turn = sym found ∙ is in
@@ -220,11 +238,15 @@ turn_steps design members block rank s n p turn order phase at is =
     let here : turned s n p t ≡ f = turn_leaves s n p t (block p) c in
     let stays : Stays members block s f = turn_stays design members block rank s n p t order phase at member c in
     let updates : updates_in f.active ≡ updates_in s.active = (all_changed (taking n s) t.writes).updates ∙ sym (updates_left n p 0 s.next_event s.active order.active at) in
+    let stand' : AllStand design members block start f = λ q member'. stands_turned design members block rank start s n p q t (p == q) refl order phase stand at member member' pending at_t c in
     let phase' : IsPhase design f members block rank =
-    phase_after design members block rank s f phase stays (λ r there. ap (λ us. contains (map (λ (u : ℕ × Vector). u.0) us) r) (sym updates) ∙ there)
-    (λ q member'. stands_turned design members block rank s n p q t (p == q) refl order phase at member member' pending at_t c) in
-    subst (λ (x : turns.Turn). Steps design members block rank s (turn_effect s n p x)) same
-    (c.lines, subst (λ x. IsPhase design x members block rank) (sym here) phase', subst (λ x. Stays members block s x) (sym here) stays)
+    phase_after design members block rank start s f phase stays (λ r there. ap (λ us. contains (map (λ (u : ℕ × Vector). u.0) us) r) (sym updates) ∙ there) stand' in
+    subst (λ (x : turns.Turn). Steps design members block rank start s (turn_effect s n p x)) same (
+      c.lines,
+      subst (λ x. IsPhase design x members block rank) (sym here) phase',
+      subst (λ x. Stays members block s x) (sym here) stays,
+      subst (λ x. AllStand design members block start x) (sym here) stand',
+    )
 
 -- an update
 
@@ -261,9 +283,9 @@ or_right : (a b : Bool) → b ≡ true → (a || b) ≡ true
 or_right true b h = refl
 or_right false b h = h
 
-update_steps : (design : Design) (members : List ℕ) (block : ℕ → Block) (rank : ℕ → ℕ) (s : State) (n r : ℕ) (v : Vector) → IsInOrder s → IsPhase design s members block rank
-    → action_in s.active n ≡ Some (Action.Update r v) → has_earlier_update s.active n ≡ false → Steps design members block rank s (update_effect s n r v)
-update_steps design members block rank s n r v order phase at earliest =
+update_steps : (design : Design) (members : List ℕ) (block : ℕ → Block) (rank : ℕ → ℕ) (start s : State) (n r : ℕ) (v : Vector) → IsInOrder s → IsPhase design s members block rank
+    → AllStand design members block start s → action_in s.active n ≡ Some (Action.Update r v) → has_earlier_update s.active n ≡ false → Steps design members block rank start s (update_effect s n r v)
+update_steps design members block rank start s n r v order phase stand at earliest =
     let first : updates_in s.active ≡ (r, v) ∷ updates_in (without n s.active) = update_taken n r 0 s.next_event v s.active order.active at earliest in
     let x : State = updated s n r v in
     let c : Changed (taking n s) r v x = changed (taking n s) r v in
@@ -272,13 +294,12 @@ update_steps design members block rank s n r v order phase at earliest =
     λ q there.
     let later : contains (map (λ (u : ℕ × Vector). u.0) (updates_in (without n s.active))) q ≡ true = ap (λ us. contains (map (λ (u : ℕ × Vector). u.0) us) q) (sym c.updates) ∙ there in
     rw first (or_right (r == q) (contains (map (λ (u : ℕ × Vector). u.0) (updates_in (without n s.active))) q) later) in
-    let touched : contains (updated_in s) r ≡ true = rw first (first_there r (updates_in (without n s.active))) in (
-      refl,
-      phase_after design members block rank s x phase stays fewer
-          (λ p member. stands_changed design (taking n s) x r v p (block p) (phase.blocks p member) (phase.updates r touched p member) c
-          (stands_taken design s n p (block p) (taken_update s n r p v order at) (phase.stands p member))),
-      stays,
-    )
+    let touched : contains (updated_in s) r ≡ true = rw first (first_there r (updates_in (without n s.active))) in
+    let stand' : AllStand design members block start x =
+    λ p member.
+    stands_changed design start (taking n s) x r v p (block p) (phase.blocks p member) (phase.updates r touched p member) c
+    (stands_taken design start s n p (block p) (taken_update s n r p v order at) (stand p member)) in
+    (refl, phase_after design members block rank start s x phase stays fewer stand', stays, stand')
   where
     first_there : (r : ℕ) (us : List (ℕ × Vector)) → (r == r || contains (map (λ (u : ℕ × Vector). u.0) us) r) ≡ true
     first_there r us =
@@ -287,17 +308,18 @@ update_steps design members block rank s n r v order phase at earliest =
 
 -- a step
 
-pub phase_steps : (design : Design) (members : List ℕ) (block : ℕ → Block) (rank : ℕ → ℕ) (s : State) (entry : Entry) (f : Effect) → IsInOrder s → IsPhase design s members block rank
-    → TakesEvent entry → step design s entry ≡ Some f → Steps design members block rank s f
-phase_steps design members block rank s entry f order phase takes is = permitted entry takes ((step_is_exact design s entry f).0 is).1 is
+pub phase_steps : (design : Design) (members : List ℕ) (block : ℕ → Block) (rank : ℕ → ℕ) (start s : State) (entry : Entry) (f : Effect) → IsInOrder s → IsPhase design s members block rank
+    → AllStand design members block start s → TakesEvent entry → step design s entry ≡ Some f → Steps design members block rank start s f
+phase_steps design members block rank start s entry f order phase stand takes is = permitted entry takes ((step_is_exact design s entry f).0 is).1 is
   where
     found : (p : ℕ) (turn : turns.Turn) → turns.IsTurn design p (remainder_of s p) s.store s.time turn → turns.IsShort turn → turn_of design s p ≡ Some turn
     found p turn exact short = short_turn_found design p (remainder_of s p) s.store s.time turn exact short
 
-    permitted : (entry : Entry) → TakesEvent entry → IsPermitted design s entry f → step design s entry ≡ Some f → Steps design members block rank s f
+    permitted : (entry : Entry) → TakesEvent entry → IsPermitted design s entry f → step design s entry ≡ Some f → Steps design members block rank start s f
     permitted (Entry.Turn n) takes (p, turn, at, exact, short, same) is =
-        rw same (turn_steps design members block rank s n p turn order phase at (found p turn exact short))
-    permitted (Update n) takes (r, v, at, earliest, same) is = rw same (update_steps design members block rank s n r v order phase at earliest)
+        rw same (turn_steps design members block rank start s n p turn order phase stand at (found p turn exact short))
+    permitted (Update n) takes (r, v, at, earliest, same) is =
+        rw same (update_steps design members block rank start s n r v order phase stand at earliest)
     permitted ActivateInactive takes h is = absurd takes
     permitted ActivateNba takes h is = absurd takes
     permitted ActivateMonitor takes h is = absurd takes

@@ -5,13 +5,13 @@ use Rattle.model.specs.declared.tree.Change.TheVariants.{Any}
 use Rattle.model.specs.declared.entry.Entry.{Entry}
 use Rattle.model.specs.declared.entry.Entry.TheVariants.{Turn, Update, ActivateInactive, ActivateNba, ActivateMonitor, Advance}
 use Rattle.model.specs.Design.{Design, Trigger}
-use Rattle.model.specs.Expressions.{Store}
+use Rattle.model.specs.Expressions.{Store, value_of}
 use Rattle.model.specs.Turns.{Remainder, OnChange, contains, short_turn}
 use Rattle.model.specs.Turns as turns
 use Rattle.model.specs.States.{Continuation, State}
 use Rattle.model.specs.Laws.{evaluations_in}
 use Rattle.orders.specs.Alike.{updates_in}
-use Rattle.orders.specs.Apart.{all_given, written_by}
+use Rattle.orders.specs.Apart.{AgreeOn, all_given, written_by}
 
 -- A block of combinational logic, as in `always @(a or b) y = a & b;`: what its process has left to run while it waits, the
 -- registers that it waits for, and the registers that it gives values.
@@ -66,11 +66,43 @@ IsConsistent design s p block =
 abbrev pub IsTurnPending : State → ℕ → Block → Type 0
 IsTurnPending s p block = (evaluations_in p s.active ≡ 1) × (continuation_of s p ≡ record { remainder = block.rest; triggers = [] })
 
+-- a block waits
+abbrev pub IsBlockWaiting : State → ℕ → Block → Type 0
+IsBlockWaiting s p block =
+    (evaluations_in p s.active ≡ 0) × (continuation_of s p ≡ record { remainder = block.rest; triggers = triggers block })
+
 -- a block waits, and its turn would leave every value as it is
 abbrev pub HasSettled : Design → State → ℕ → Block → Type 0
 HasSettled design s p block =
     (evaluations_in p s.active ≡ 0) × (continuation_of s p ≡ record { remainder = block.rest; triggers = triggers block })
     × IsConsistent design s p block
+
+-- a block waits as it did in an earlier state of the same time, and the registers that it reads and writes have their values of then
+abbrev pub IsUntouched : State → State → ℕ → Block → Type 0
+IsUntouched start s p block =
+    record {
+      waits : IsBlockWaiting s p block;
+      waited : IsBlockWaiting start p block;
+      time : s.time ≡ start.time;
+      registers : length s.store ≡ length start.store;
+      inputs : AgreeOn block.inputs start.store s.store;
+      outputs : AgreeOn block.outputs start.store s.store;
+    }
+
+-- a block is pending, or has settled, or is untouched since an earlier state
+abbrev pub StandsSince : Design → State → State → ℕ → Block → Type 0
+StandsSince design start s p block = IsTurnPending s p block ⊎ (HasSettled design s p block ⊎ IsUntouched start s p block)
+
+-- an input of a block has another value in a state than in an earlier one
+abbrev pub HasChangedInput : State → State → Block → Type 0
+HasChangedInput start s block = (r : ℕ) × (contains block.inputs r ≡ true) × (value_of start.store r ≢ value_of s.store r)
+
+-- Members settle between two states: each is pending in the first, or has settled there, or one of its inputs has another value in the
+-- second.
+abbrev pub SettleBetween : Design → List ℕ → (ℕ → Block) → State → State → Type 0
+SettleBetween design members block start s =
+    (p : ℕ) → contains members p ≡ true
+    → (IsTurnPending start p (block p) ⊎ HasSettled design start p (block p)) ⊎ HasChangedInput start s (block p)
 
 -- whether a process waits for a change of a register, of whatever kind
 abbrev pub waits_for_register : Continuation → ℕ → Bool
@@ -84,9 +116,9 @@ updated_in s = map (λ u. u.0) (updates_in s.active)
 abbrev pub IsOutput : List ℕ → (ℕ → Block) → ℕ → Type 0
 IsOutput members block r = (p : ℕ) × (contains members p ≡ true) × (contains (block p).outputs r ≡ true)
 
--- A phase: the members are combinational processes, and only updates and turns of theirs are active. Each of them is pending, or waits
--- and would change nothing. No register is an output of two of them, nor an output that is updated. They stand in an order, in
--- which each comes before those that read its outputs. No other process waits for an output or for a register that is updated.
+-- A phase: the members are combinational processes, and only updates and turns of theirs are active. Each of them is pending, or waits.
+-- No register is an output of two of them, nor an output that is updated. They stand in an order, in which each comes before those that
+-- read its outputs. No other process waits for an output or for a register that is updated.
 abbrev pub IsPhase : Design → State → List ℕ → (ℕ → Block) → (ℕ → ℕ) → Type 0
 IsPhase design s members block rank =
     record {
@@ -94,7 +126,7 @@ IsPhase design s members block rank =
       inside : (p : ℕ) → IsActive s p → contains members p ≡ true;
       exist : (p : ℕ) → contains members p ≡ true → p < length s.processes;
       blocks : (p : ℕ) → contains members p ≡ true → IsBlock design p (block p);
-      stands : (p : ℕ) → contains members p ≡ true → IsTurnPending s p (block p) ⊎ HasSettled design s p (block p);
+      stands : (p : ℕ) → contains members p ≡ true → IsTurnPending s p (block p) ⊎ IsBlockWaiting s p (block p);
       single : (p q r : ℕ) → contains members p ≡ true → contains members q ≡ true → p ≢ q → contains (block p).outputs r ≡ true
           → contains (block q).outputs r ≡ false;
       updates : (r : ℕ) → contains (updated_in s) r ≡ true → (p : ℕ) → contains members p ≡ true → contains (block p).outputs r ≡ false;

@@ -9,7 +9,7 @@ use Rattle.model.specs.declared.end.Limits.{Limits}
 use Rattle.model.specs.Runs.{AreTimely, Ends, run}
 use Rattle.design.specs.Compiled.{Compiled, design_of}
 use Rattle.explore.specs.declared.Shown.{Shown}
-use Rattle.explore.specs.Grown.{Extends}
+use Rattle.sharing.specs.Parts.{Extends}
 use Rattle.explore.specs.Search.{AreDistinct, IsShown}
 use Rattle.explore.proofs.Complete.{Any-extends}
 use Rattle.explore.proofs.Growing.{Extends-through, length-extends}

@@ -9,7 +9,7 @@ use Rattle.design.specs.Compiled.{Compiled, design_of}
 use Rattle.explore.specs.declared.Shown.{Shown}
 use Rattle.explore.specs.declared.stopped.Stopped.{Stopped}
 use Rattle.explore.specs.declared.stopped.Stopped.TheVariants as stopped
-use Rattle.explore.specs.Grown.{Extends}
+use Rattle.sharing.specs.Parts.{Extends}
 use Rattle.explore.specs.Search.{AreDistinct, IsShown}
 use Rattle.model.specs.Texts as orders
 use Rattle.races.specs.declared.told.Found.{Found}

@@ -27,7 +27,7 @@ use Rattle.model.specs.declared.entry.Entry.{Entry}
 use Rattle.model.specs.declared.end.End.{End}
 use Rattle.model.specs.declared.end.Limits.{Limits}
 use Rattle.explore.specs.declared.Shown.{Shown}
-use Rattle.explore.specs.Grown.{Extends}
+use Rattle.sharing.specs.Parts.{Extends}
 use Rattle.races.specs.declared.told.Found.{Found}
 use Rattle.races.specs.declared.told.RaceBounds.{RaceBounds}
 use Rattle.verdict.specs.declared.claim.Claim.{Claim}

@@ -3,7 +3,7 @@
 
 ghost use Rattle.std.specs.Prelude.{◌≡◌, ◌≤◌, ◌⊎◌, ◌∷◌, ◌++◌, IfErr, IfOk, IfSome, List, None, OnOk, Option, [], ◌+◌, length, option_map, ℕ};
 ghost use Rattle.std.specs.Io.KnownBytes.{Appends, Keeps};
-ghost use Rattle.explore.specs.Grown.{Extends};
+ghost use Rattle.sharing.specs.Parts.{Extends};
 ghost use Rattle.explore.specs.Search.{AreDistinct};
 ghost use Rattle.std.specs.List.{All, AllPairs};
 ghost use Rattle.frontend.specs.Sources.{IsDesignOf};

@@ -10,7 +10,7 @@ use crate::conflicts::{Conflict, Conflicts, Turning};
 use crate::exchange::{Order, exchange};
 use crate::race_search::RaceSearch;
 use crate::told::{Bound, Race};
-use accesses::{Claim, Pair, Site};
+use accesses::{ExchangeClaim, Pair, Site};
 use progress::Progress;
 use runs::compared::{are_apart, wants_memory};
 use runs::run::RunRecord;
@@ -77,7 +77,7 @@ fn has_both_orders(
 ) -> Result<bool, AllocError>
     ensures { IfOk result (λ has. IsTrue has → HasBothOrders (design_of task.entry.design.now) task.entry.original.now.journal.items exchanged.now.journal.items conflict.now.pair.site conflict.now.pair.time conflict.now.pair.first conflict.now.pair.second) }
 {
-    let claim = Claim {
+    let claim = ExchangeClaim {
         alloc: task.alloc,
         design: task.design,
         journal: &task.original.journal,

@@ -13,11 +13,11 @@ use Rattle.model.specs.declared.end.End.{End}
 use Rattle.model.specs.declared.end.End.TheVariants.{Quiet, Running, Stopped}
 use Rattle.model.specs.Design.{Design}
 use Rattle.model.specs.States.{Action, Evaluate, Event, State}
-use Rattle.model.specs.Runs.{silent, action_in, has_any, has_earlier, has_future, Future, refused_where, refusal, entry_refusal, least_time, last_time, is_quiet, is_idle, HasLongTurn, IsPast, IsPastLimit, most_time, IsTimely, EndsIn}
+use Rattle.model.specs.Runs.{silent, action_in, has_any, has_earlier, has_future, Future, refused_where, refusal, entry_refusal, least_time, last_time, is_quiet, is_idle, HasLongTurn, IsPast, IsPastLimit, most_time, IsTimely, EndsIn, why_past}
 use Rattle.model.specs.Texts.{EndsHere}
 use Rattle.model.proofs.RunLaws.{where_none, either_false}
 use Rattle.regions.specs.Machine.{IsChange, IsDue}
-use Rattle.runs.specs.Halting.{MayBeNext, why_past, IsAtAnyCount, HaltsAt, GoesOn, OnlyLongTurnsEnd}
+use Rattle.runs.specs.Halting.{MayBeNext, IsAtAnyCount, HaltsAt, GoesOn, OnlyLongTurnsEnd}
 use Rattle.runs.proofs.Permits.{only_future, permitted_advance, advance_rests, advance_next, no_time, SomeNext, active_next}
 
 has_active : (es : List Event) (n : ℕ) (a : Action) → action_in es n ≡ Some a → has_any es ≡ true

@@ -1,9 +1,8 @@
 -- Where a run may take no entry in time, and how it ends there.
-use Rattle.std.specs.Prelude.{◌≡◌, ◌⊎◌, ℕ, ◌<◌, Option, None, Some}
+use Rattle.std.specs.Prelude.{◌≡◌, ◌⊎◌, ℕ, ◌<◌, None}
 use Rattle.model.specs.declared.entry.Entry.{Entry}
 use Rattle.model.specs.declared.end.Limits.{Limits}
-use Rattle.model.specs.declared.end.Why.{Why}
-use Rattle.model.specs.declared.end.Why.TheVariants.{Finish, Until, Time, TooLong}
+use Rattle.model.specs.declared.end.Why.TheVariants.{Finish, TooLong}
 use Rattle.model.specs.declared.end.End.{End}
 use Rattle.model.specs.declared.end.End.TheVariants.{Quiet, Stopped}
 use Rattle.model.specs.Design.{Design}
@@ -14,11 +13,6 @@ use Rattle.model.specs.Texts.{EndsHere}
 -- the rules permit this entry here, and it is in time
 abbrev pub MayBeNext : Limits → State → Entry → Type 0
 MayBeNext limits s entry = (refusal s entry ≡ None) × IsTimely limits entry
-
--- why a run stops whose next time is past its limit, or without one past the last time
-abbrev pub why_past : Option ℕ → Why
-why_past None = Time
-why_past (Some until) = Until
 
 -- the end is one that a run has however many entries it took
 abbrev pub IsAtAnyCount : End → Type 0

@@ -1,11 +1,11 @@
 //! Whether a machine may take an entry in time, and else the end of its run.
 ghost use Rattle.std.specs.Prelude.{◌≡◌, ◌≤◌, ◌↔◌, IsTrue, IfSome, IfNone};
 ghost use Rattle.model.specs.Runs as runs;
-ghost use Rattle.model.specs.Runs.{IsTimely, last_time};
+ghost use Rattle.model.specs.Runs.{IsTimely, last_time, why_past};
 ghost use Rattle.model.specs.declared.end.End.TheVariants as ends;
 ghost use Rattle.design.specs.Compiled.{design_of};
 ghost use Rattle.regions.specs.Machine.{state_at};
-ghost use Rattle.runs.specs.Halting.{why_past, HaltsAt, GoesOn, OnlyLongTurnsEnd};
+ghost use Rattle.runs.specs.Halting.{HaltsAt, GoesOn, OnlyLongTurnsEnd};
 
 use model::end::{End, LAST_TIME, Limits, Why};
 use model::entry::Entry;

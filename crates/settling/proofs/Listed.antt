@@ -1,5 +1,5 @@
 -- What is told of the elements of lists, one after another.
-use Rattle.std.proofs.Common.{◌≡◌, ◌<◌, ◌+◌, ⊎_elim, ℕ, Bool, true, false, List, [], ◌∷◌, ◌++◌, map, length, take, Option, Some, refl, sym, ap, subst, ◌∙◌, arith, get_or, ◌==◌, ◌||◌, if◌then◌else◌}
+use Rattle.std.proofs.Common.{◌≡◌, ◌<◌, ◌+◌, ⊎_elim, ℕ, zero, suc, Bool, true, false, List, [], ◌∷◌, ◌++◌, map, length, take, Option, Some, refl, sym, ap, subst, ◌∙◌, arith, get_or, ◌==◌, ◌||◌, eq-eqb, if◌then◌else◌}
 use Rattle.std.specs.Prelude.{slice_get}
 use Rattle.std.specs.List.{All, list_any}
 use Rattle.std.proofs.lemmas.Bool.{cases_lt, eqb-true}
@@ -30,6 +30,35 @@ pub all_there : (P : ℕ → Type 0) (ns : List ℕ) (n : ℕ) → All P ns → 
 all_there P [] n all h = absurd (cc)
 all_there P (m ∷ ns) n all h =
     there_if P m n ns (m == n) refl h (All-head P m ns all) (all_there P ns n (All-tail P m ns all))
+
+-- each element is there
+
+there_or : (m n : ℕ) (ns : List ℕ) (b : Bool) → contains ns n ≡ true → (b || contains ns n) ≡ true
+there_or m n ns true h = refl
+there_or m n ns false h = h
+
+pub there_at : (ns : List ℕ) (i d : ℕ) → i < length ns → contains ns (get_or ns i d) ≡ true
+there_at [] i d lt = absurd (omega (arith, lt))
+there_at (n ∷ ns) zero d lt = here (n == n) (eq-eqb n n refl)
+  where
+    here : (b : Bool) → b ≡ true → (b || contains ns n) ≡ true
+    here true is = refl
+    here false is = absurd (cc)
+there_at (n ∷ ns) (suc i) d lt = there_or n (get_or ns i d) ns (n == get_or ns i d) (there_at ns i d (omega (arith, lt)))
+
+-- what holds of some numbers and of one more, holds of these with it
+
+among_more : (P : ℕ → Type 0) (m : ℕ) (n : ℕ) → contains (m ∷ []) n ≡ true → P m → P n
+among_more P m n h here = there_if P m n [] (m == n) refl h here (λ never. absurd (cc))
+
+pub all_more : (P : ℕ → Type 0) (ns : List ℕ) (m : ℕ) → ((n : ℕ) → contains ns n ≡ true → P n) → P m → (n : ℕ) → contains (ns ++ m ∷ []) n ≡ true → P n
+all_more P [] m all here n h = among_more P m n h here
+all_more P (k ∷ ns) m all here n h =
+    there_if P k n (ns ++ m ∷ []) (k == n) refl h (all k (first (k == k) (eq-eqb k k refl))) (λ later. all_more P ns m (λ j there. all j (there_or k j ns (k == j) there)) here n later)
+  where
+    first : (b : Bool) → b ≡ true → (b || contains ns k) ≡ true
+    first true is = refl
+    first false is = absurd (cc)
 
 -- triggers of which none is of these registers
 

@@ -1,6 +1,6 @@
 -- A process that stands as its logic says is a member.
-use Rattle.std.proofs.Common.{◌≡◌, ◌<◌, ◌⊎◌, inl, inr, ℕ, List, [], ◌++◌, length, Option, Some, None, refl, sym, ap, subst, ◌∙◌}
-use Rattle.std.specs.Prelude.{slice_get, slice_index_or}
+use Rattle.std.proofs.Common.{◌≡◌, ◌<◌, ◌⊎◌, inl, inr, ℕ, true, false, List, [], ◌++◌, length, Option, Some, None, refl, sym, ap, subst, ◌∙◌}
+use Rattle.std.specs.Prelude.{slice_get, slice_index_or, is_some, IfSome}
 use Rattle.std.specs.Option.{IsSomeAnd}
 use Rattle.std.proofs.lemmas.List.{length-map}
 use Rattle.logic4.specs.Vector.{Vector}
@@ -17,7 +17,7 @@ use Rattle.design.specs.declared.code.ProcState.{ProcState}
 use Rattle.design.specs.DesignInvariant.{pending_part, remainder_of_state, controls_of, IsStateOf}
 use Rattle.design.specs.CodePlaces.{remainder_at}
 use Rattle.turn.specs.TurnLogs.{LogView, IsLogOf}
-use Rattle.phases.specs.Phase.{Block, triggers, continuation_of, IsTurnPending, HasSettled, IsConsistent}
+use Rattle.phases.specs.Phase.{Block, triggers, continuation_of, IsTurnPending, IsBlockWaiting, HasSettled, IsConsistent}
 use Rattle.regions.specs.declared.queue.Continuation.{Continuation}
 use Rattle.regions.specs.Queue.{Core, state_of}
 use Rattle.regions.specs.Machine.{Stands}
@@ -27,7 +27,7 @@ use Rattle.regions.proofs.Evaluated.{remainder_is}
 use Rattle.combinational.specs.declared.block.Logic.{Logic}
 use Rattle.combinational.specs.declared.network.Network.{Network}
 use Rattle.combinational.specs.Found.{IsNetworkOf, HasLogic, block_in}
-use Rattle.settling.specs.Settling.{IsMember}
+use Rattle.settling.specs.Settling.{IsMember, IsMemberAt, IsPendingOrSettled}
 use Rattle.settling.specs.LogicStanding.{IsContinuedAt, StandsBehind, HasUnchangingTurn, StandsAs}
 use Rattle.settling.proofs.Places.{element_at}
 
@@ -53,25 +53,58 @@ awaited_at : (controls : List (List Trigger)) (waits control : ℕ) (ts : List T
 awaited_at controls waits control ts same at = ap (λ n. slice_index_or controls n []) same ∙ element_at controls control ts [] at
 
 stands_by : (code : Compiled) (s : State) (p : ℕ) (logic : Logic) (rest : Remainder) (waits : Option ℕ) → continuation_of s p ≡ record { remainder = rest; triggers = triggers_at (controls_of code) waits } → rest ≡ (block_in code logic).rest
-    → slice_get (controls_of code) logic.control ≡ Some (triggers (block_in code logic)) → StandsAs (design_of code) s p logic.control waits → IsTurnPending s p (block_in code logic) ⊎ HasSettled (design_of code) s p (block_in code logic)
+    → slice_get (controls_of code) logic.control ≡ Some (triggers (block_in code logic)) → StandsAs s p logic.control waits → IsTurnPending s p (block_in code logic) ⊎ IsBlockWaiting s p (block_in code logic)
 stands_by code s p logic rest None is left at stand =
     inl (stand, is ∙ ap (placed []) left)
-stands_by code s p logic rest (Some waits) is left at (same, none, has_left) =
-    let continuation : continuation_of s p ≡ record { remainder = (block_in code logic).rest; triggers = triggers (block_in code logic) } =
-    is ∙ ap (placed (triggers_at (controls_of code) (Some waits))) left
-    ∙ ap (λ (ts : List Trigger). placed ts (block_in code logic).rest) (awaited_at (controls_of code) waits logic.control (triggers (block_in code logic)) same at) in
-    inr (none, continuation, consistent code s p (block_in code logic) continuation has_left)
+stands_by code s p logic rest (Some waits) is left at (same, none) =
+    inr (
+      none,
+      is ∙ ap (placed (triggers_at (controls_of code) (Some waits))) left
+          ∙ ap (λ (ts : List Trigger). placed ts (block_in code logic).rest) (awaited_at (controls_of code) waits logic.control (triggers (block_in code logic)) same at),
+    )
 
-pub member_stands : (code : Compiled) (s : State) (network : Network) (p : ℕ) (logic : Logic) (x : Continuation) → IsNetworkOf code network → slice_get network.logics.items p ≡ Some (Some logic)
-    → (p < length s.processes) × (continuation_of s p ≡ record { remainder = remainder_of_state code x.state; triggers = triggers_at (controls_of code) x.waits }) → StandsBehind x logic → StandsAs (design_of code) s p logic.control x.waits → IsMember code s network p
-member_stands code s network p logic x found at (exists, is) behind stand =
+pending_by : (code : Compiled) (s : State) (p : ℕ) (logic : Logic) (rest : Remainder) (waits : Option ℕ) → continuation_of s p ≡ record { remainder = rest; triggers = triggers_at (controls_of code) waits } → rest ≡ (block_in code logic).rest
+    → StandsAs s p logic.control waits → waits ≡ None → IsTurnPending s p (block_in code logic)
+pending_by code s p logic rest None is left stand none = (stand, is ∙ ap (placed []) left)
+pending_by code s p logic rest (Some waits) is left stand none = cc
+
+pub member_stands : (code : Compiled) (core : Core) (s : State) (network : Network) (p : ℕ) (logic : Logic) (x : Continuation) → IsNetworkOf code network → slice_get network.logics.items p ≡ Some (Some logic)
+    → (p < length s.processes) × (continuation_of s p ≡ record { remainder = remainder_of_state code x.state; triggers = triggers_at (controls_of code) x.waits }) → IsContinuedAt core p x.state → StandsBehind x logic
+    → StandsAs s p logic.control x.waits → IsMemberAt code core s network p x
+member_stands code core s network p logic x found at (exists, is) place behind stand =
     let has : HasLogic code p logic = found.each p logic at in
     record {
-      logic = logic;
-      found = at;
-      exists = exists;
-      stands = stands_by code s p logic (remainder_of_state code x.state) x.waits is (remainder_behind code x logic behind) has.control stand;
+      member = record {
+        logic = logic;
+        found = at;
+        exists = exists;
+        stands = stands_by code s p logic (remainder_of_state code x.state) x.waits is (remainder_behind code x logic behind) has.control stand;
+      };
+      place = place;
+      pending = pending_by code s p logic (remainder_of_state code x.state) x.waits is (remainder_behind code x logic behind) stand;
     }
+
+-- a place that was found is that of a member
+pub some_member : (code : Compiled) (core : Core) (s : State) (network : Network) (p : ℕ) (o : Option Continuation) → is_some o ≡ true → IfSome o (IsMemberAt code core s network p) → IsMember code s network p
+some_member code core s network p None is at = cc
+some_member code core s network p (Some x) is at = at.member
+
+-- a member that waits for nothing is pending or settled, and one whose turn leaves every value
+none_waited : (o : Option ℕ) → is_some o ≡ false → o ≡ None
+none_waited None is = refl
+none_waited (Some waits) is = cc
+
+pub pending_so : (code : Compiled) (core : Core) (s : State) (network : Network) (p : ℕ) (x : Continuation) → IsMemberAt code core s network p x → is_some x.waits ≡ false → IsPendingOrSettled code s network p
+pending_so code core s network p x h is =
+    record { member = h.member; settled = inl (h.pending (none_waited x.waits is)) }
+
+pub settled_so : (code : Compiled) (s : State) (network : Network) (p : ℕ) → IsMember code s network p → HasUnchangingTurn (design_of code) s p → IsPendingOrSettled code s network p
+settled_so code s network p m leaves =
+    record { member = m; settled = settled_if m.stands }
+  where
+    settled_if : IsTurnPending s p (block_in code m.logic) ⊎ IsBlockWaiting s p (block_in code m.logic) → IsTurnPending s p (block_in code m.logic) ⊎ HasSettled (design_of code) s p (block_in code m.logic)
+    settled_if (inl h) = inl h
+    settled_if (inr (none, is)) = inr (none, is, consistent code s p (block_in code m.logic) is leaves)
 
 -- a turn that there is leaves every value where the writes of its log do
 leaving_turn : (code : Compiled) (log : LogView) (a : Store) (o : Option turns.Turn) → IsSomeAnd o (IsLogOf (remainder_of_state code) (controls_of code) log) → all_given a log.writes ≡ a

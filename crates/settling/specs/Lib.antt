@@ -1,3 +1,4 @@
 pub mod Settling
 pub mod Waiting
 pub mod LogicStanding
+pub mod Settled

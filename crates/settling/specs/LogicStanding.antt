@@ -25,7 +25,7 @@ pub record StandsBehind (continuation : Continuation) (logic : Logic) : Type 0 w
 abbrev pub HasUnchangingTurn : Design → State → ℕ → Type 0
 HasUnchangingTurn design s p = (turn : turns.Turn) × (turn_of design s p ≡ Some turn) × (all_given s.store turn.writes ≡ s.store)
 
--- a process waits for nothing, and has one evaluation; or it waits by this event control, has none, and its turn leaves every value
-abbrev pub StandsAs : Design → State → ℕ → ℕ → Option ℕ → Type 0
-StandsAs design s p control None = evaluations_in p s.active ≡ 1
-StandsAs design s p control (Some waits) = (waits ≡ control) × (evaluations_in p s.active ≡ 0) × HasUnchangingTurn design s p
+-- a process waits for nothing, and has one evaluation; or it waits by this event control, and has none
+abbrev pub StandsAs : State → ℕ → ℕ → Option ℕ → Type 0
+StandsAs s p control None = evaluations_in p s.active ≡ 1
+StandsAs s p control (Some waits) = (waits ≡ control) × (evaluations_in p s.active ≡ 0)

@@ -1,12 +1,15 @@
 -- Combinational processes of a network in a state.
-use Rattle.std.specs.Prelude.{◌≡◌, ◌⊎◌, ℕ, ◌<◌, true, List, [], length, Option, Some, slice_get}
+use Rattle.std.specs.Prelude.{◌≡◌, ◌≢◌, ◌⊎◌, ℕ, ◌<◌, true, false, List, [], length, Option, Some, None, slice_get}
 use Rattle.model.specs.Turns.{contains}
 use Rattle.model.specs.States.{State}
 use Rattle.design.specs.Compiled.{Compiled, design_of}
-use Rattle.phases.specs.Phase.{Block, IsTurnPending, HasSettled, IsPhase}
+use Rattle.phases.specs.Phase.{Block, continuation_of, IsBlock, IsTurnPending, IsBlockWaiting, HasSettled, waits_for_register, updated_in, IsOutput, IsPhase}
 use Rattle.combinational.specs.declared.block.Logic.{Logic}
 use Rattle.combinational.specs.declared.network.Network.{Network}
 use Rattle.combinational.specs.Found.{block_in, rank_in}
+use Rattle.regions.specs.declared.queue.Continuation.{Continuation}
+use Rattle.regions.specs.Queue.{Core}
+use Rattle.settling.specs.LogicStanding.{IsContinuedAt}
 
 -- the block of logic, and none where there is no logic
 abbrev pub block_or : Compiled → Option (Option Logic) → Block
@@ -17,20 +20,57 @@ block_or code _ = record { rest = []; inputs = []; outputs = [] }
 abbrev pub block_at : Compiled → Network → ℕ → Block
 block_at code network p = block_or code (slice_get network.logics.items p)
 
--- a process is combinational, and pending or settled
+-- a process is combinational, and pending or waits
 pub record IsMember (code : Compiled) (s : State) (network : Network) (p : ℕ) : Type 0 where
   pub logic : Logic
   pub found : slice_get network.logics.items p ≡ Some (Some logic)
   pub exists : p < length s.processes
-  pub stands : IsTurnPending s p (block_in code logic) ⊎ HasSettled (design_of code) s p (block_in code logic)
+  pub stands : IsTurnPending s p (block_in code logic) ⊎ IsBlockWaiting s p (block_in code logic)
 
 -- each of these is
 abbrev pub AreMembers : Compiled → State → Network → List ℕ → Type 0
 AreMembers code s network members = (p : ℕ) → contains members p ≡ true → IsMember code s network p
 
+-- a member goes on from this place; where it waits for nothing, it is pending
+pub record IsMemberAt (code : Compiled) (core : Core) (s : State) (network : Network) (p : ℕ) (continuation : Continuation) : Type 0 where
+  pub member : IsMember code s network p
+  pub place : IsContinuedAt core p continuation.state
+  pub pending : continuation.waits ≡ None → IsTurnPending s p (block_in code member.logic)
+
+-- a process is combinational, and pending or settled
+pub record IsPendingOrSettled (code : Compiled) (s : State) (network : Network) (p : ℕ) : Type 0 where
+  pub member : IsMember code s network p
+  pub settled : IsTurnPending s p (block_in code member.logic) ⊎ HasSettled (design_of code) s p (block_in code member.logic)
+
+-- each of these is
+abbrev pub ArePendingOrSettled : Compiled → State → Network → List ℕ → Type 0
+ArePendingOrSettled code s network members = (p : ℕ) → contains members p ≡ true → IsPendingOrSettled code s network p
+
 -- a state is a phase of these processes
 abbrev pub IsPhaseOf : Compiled → State → Network → List ℕ → Type 0
 IsPhaseOf code s network members = IsPhase (design_of code) s members (block_at code network) (rank_in network.ranks.items)
+
+-- In a state these processes of a network may be held while others go on: the run isn't finished, and each of them is combinational, and
+-- pending or settled. No register is an output of two of them, nor an output that is updated. They come in rank before those that read
+-- their outputs. No other process waits for an output.
+pub record MayBeHeld (code : Compiled) (s : State) (network : Network) (members : List ℕ) : Type 0 where
+  pub goes_on : s.finished ≡ false
+  pub exist : (p : ℕ) → contains members p ≡ true → p < length s.processes
+  pub blocks : (p : ℕ) → contains members p ≡ true → IsBlock (design_of code) p (block_at code network p)
+  pub stands :
+      (p : ℕ) → contains members p ≡ true
+      → IsTurnPending s p (block_at code network p) ⊎ HasSettled (design_of code) s p (block_at code network p)
+  pub single :
+      (p q r : ℕ) → contains members p ≡ true → contains members q ≡ true → p ≢ q → contains (block_at code network p).outputs r ≡ true
+      → contains (block_at code network q).outputs r ≡ false
+  pub updates :
+      (r : ℕ) → contains (updated_in s) r ≡ true → (p : ℕ) → contains members p ≡ true → contains (block_at code network p).outputs r ≡ false
+  pub order :
+      (p q r : ℕ) → contains members p ≡ true → contains members q ≡ true → contains (block_at code network p).outputs r ≡ true
+      → contains (block_at code network q).inputs r ≡ true → rank_in network.ranks.items p < rank_in network.ranks.items q
+  pub others :
+      (q r : ℕ) → contains members q ≡ false → IsOutput members (block_at code network) r
+      → waits_for_register (continuation_of s q) r ≡ false
 
 -- each of these registers has a list as an output of one of these processes
 abbrev pub HaveOutputs : Network → List ℕ → List ℕ → Type 0

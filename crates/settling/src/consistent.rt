@@ -16,8 +16,8 @@ fn is_written(writes: &[(RegId, Bits)], register: RegId) -> bool
     writes.iter().any(|write| write.0 == register)
 }
 
-// Whether a register has this value.
-fn has_value(store: &PlainStore, register: RegId, value: &Bits) -> bool
+/// Whether a register has this value.
+pub(crate) fn has_value(store: &PlainStore, register: RegId, value: &Bits) -> bool
     ensures { result ≡ true → value_of store.now register ≡ value.now }
 {
     match store.value(register) {

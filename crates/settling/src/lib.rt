@@ -1,12 +1,17 @@
 //! States from which combinational processes settle in one way: `phase_of` tells whether the state of a machine is a phase (`IsPhase`
-//! of `phases`), and of which processes. `AnalyzedDesign` is a design with its combinational processes.
+//! of `phases`), and of which processes, and `settle_since` whether these settle from its begin to its end. `held_of` tells which of
+//! them may be held in any state while others go on. `AnalyzedDesign` is a design with its combinational processes.
 #![tactic(auto)]
 
 mod analyzed_design;
 mod awaited;
+mod between;
 mod consistent;
+mod held;
 mod member;
 mod phase;
 
 pub use analyzed_design::AnalyzedDesign;
-pub use phase::phase_of;
+pub use between::{Begin, evaluated_processes, settle_since};
+pub use held::held_of;
+pub use phase::{inputs_at, outputs_at, outputs_of, phase_of};

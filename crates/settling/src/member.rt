@@ -1,4 +1,4 @@
-//! Whether a process is combinational, and pending or settled.
+//! Whether a process is combinational, and pending or waits, or has settled.
 ghost use Rattle.std.specs.Prelude.{◌≡◌, ◌≢◌, ◌≤◌, ℕ, true, false, Some, None, [], ◌∷◌, map, slice_get, IfOk, IfSome};
 ghost use Rattle.model.specs.Turns.{contains};
 ghost use Rattle.model.specs.Laws.{evaluations_in};
@@ -7,7 +7,7 @@ ghost use Rattle.combinational.specs.declared.block.Logic.{Logic as Found};
 ghost use Rattle.combinational.specs.Found.{IsNetworkOf};
 ghost use Rattle.regions.specs.Machine.{state_at};
 ghost use Rattle.regions.specs.Queue.{evaluation_event};
-ghost use Rattle.settling.specs.Settling.{IsMember, AreMembers};
+ghost use Rattle.settling.specs.Settling.{IsMember, AreMembers, IsMemberAt, IsPendingOrSettled};
 ghost use Rattle.settling.specs.LogicStanding.{IsContinuedAt, StandsBehind, HasUnchangingTurn, StandsAs};
 
 use crate::consistent::leaves_values;
@@ -59,6 +59,65 @@ fn is_behind(continuation: &Continuation, logic: &Logic) -> bool
     continuation.state.place == logic.place && continuation.state.pending.is_none()
 }
 
+// Whether a process is pending or waits as this logic does, where it goes on so.
+fn stands_as(
+    machine: &Machine<'_>,
+    logic: &Logic,
+    process: u32,
+    continuation: &Continuation,
+) -> bool
+    ensures { result ≡ true → StandsAs (state_at machine.now) process logic.now.control continuation.now.waits }
+{
+    let times = times(machine.state().active().1, process);
+    match continuation.waits {
+        None => times == 1,
+        Some(control) => {
+            if control != logic.control {
+                return false;
+            }
+            times == 0
+        }
+    }
+}
+
+// Where a process goes on that is combinational, and pending or waits. None where it isn't.
+fn member_at(machine: &Machine<'_>, network: &Network, process: u32) -> Option<Continuation>
+    requires found { IsNetworkOf machine.now.code network.now }
+    ensures { IfSome result (λ continuation. IsMemberAt machine.now.code machine.now.core (state_at machine.now) network.now process continuation) }
+{
+    let logic = logic_at(network, process)?;
+    let continuation = *machine.state().processes().get(process as usize)?;
+    if !is_behind(&continuation, logic) {
+        return None;
+    }
+    machine.stands();
+    if !stands_as(machine, logic, process, &continuation) {
+        return None;
+    }
+    Some(continuation)
+}
+
+/// Whether a process is combinational, and pending or waits.
+pub(crate) fn is_member(machine: &Machine<'_>, network: &Network, process: u32) -> bool
+    requires found { IsNetworkOf machine.now.code network.now }
+    ensures { result ≡ true → IsMember machine.now.code (state_at machine.now) network.now process }
+{
+    member_at(machine, network, process).is_some()
+}
+
+/// Whether each of these processes is.
+pub(crate) fn are_members(machine: &Machine<'_>, network: &Network, members: &[u32]) -> bool
+    requires found { IsNetworkOf machine.now.code network.now }
+    ensures { result ≡ true → AreMembers machine.now.code (state_at machine.now) network.now members.now }
+{
+    for member in members {
+        if !is_member(machine, network, *member) {
+            return false;
+        }
+    }
+    true
+}
+
 // Whether the turn of a process that goes on here would leave every value as it is. It is asked for a process that has no active
 // evaluation, so that the machine doesn't evaluate it.
 fn is_consistent(
@@ -82,74 +141,24 @@ fn is_consistent(
     }
 }
 
-// Whether a process of this logic is pending, or has settled, where it goes on so.
-fn stands_as(
-    log: &mut TurnLog,
-    machine: &Machine<'_>,
-    logic: &Logic,
-    process: u32,
-    continuation: &Continuation,
-) -> Result<bool, AllocError>
-    requires goes_on { IsContinuedAt machine.now.core process continuation.now.state }
-    ensures { IfOk result (λ stands. stands ≡ true → StandsAs (design_of machine.now.code) (state_at machine.now) process logic.now.control continuation.now.waits) }
-{
-    let times = times(machine.state().active().1, process);
-    match continuation.waits {
-        None => Ok(times == 1),
-        Some(control) => {
-            if control != logic.control {
-                return Ok(false);
-            }
-            if times != 0 {
-                return Ok(false);
-            }
-            is_consistent(log, machine, &continuation.state)
-        }
-    }
-}
-
 /// Whether a process is combinational, and pending or settled. Where its turn has to be evaluated, that is done into the log.
-pub(crate) fn is_member(
+pub(crate) fn is_pending_or_settled(
     log: &mut TurnLog,
     machine: &Machine<'_>,
     network: &Network,
     process: u32,
 ) -> Result<bool, AllocError>
     requires found { IsNetworkOf machine.now.code network.now }
-    ensures { IfOk result (λ member. member ≡ true → IsMember machine.now.code (state_at machine.now) network.now process) }
+    ensures { IfOk result (λ settled. settled ≡ true → IsPendingOrSettled machine.now.code (state_at machine.now) network.now process) }
 {
-    let logic = match logic_at(network, process) {
-        Some(logic) => logic,
+    let continuation = match member_at(machine, network, process) {
+        Some(continuation) => continuation,
         None => return Ok(false),
     };
-    let continuation = match machine.state().processes().get(process as usize) {
-        Some(continuation) => *continuation,
-        None => return Ok(false),
-    };
-    if !is_behind(&continuation, logic) {
-        return Ok(false);
+    if continuation.waits.is_none() {
+        return Ok(true);
     }
-    machine.stands();
-    stands_as(log, machine, logic, process, &continuation)
-}
-
-/// Whether each of these processes is.
-pub(crate) fn are_members(
-    alloc: Global,
-    machine: &Machine<'_>,
-    network: &Network,
-    members: &[u32],
-) -> Result<bool, AllocError>
-    requires found { IsNetworkOf machine.now.code network.now }
-    ensures { IfOk result (λ all. all ≡ true → AreMembers machine.now.code (state_at machine.now) network.now members.now) }
-{
-    let mut log = TurnLog::new(alloc);
-    for member in members {
-        if !is_member(&mut log, machine, network, *member)? {
-            return Ok(false);
-        }
-    }
-    Ok(true)
+    is_consistent(log, machine, &continuation.state)
 }
 
 /// Whether each of these evaluations is of one of these processes.

@@ -15,8 +15,8 @@ use regions::{Continuation, Evaluation, Machine, Update};
 use std::alloc::{AllocError, Global};
 use std::collections::VecDeque;
 
-// The registers of updates, in order.
-fn updated(alloc: Global, updates: &VecDeque<Update>) -> Result<Vec<RegId>, AllocError>
+/// The registers of updates, in order.
+pub(crate) fn updated(alloc: Global, updates: &VecDeque<Update>) -> Result<Vec<RegId>, AllocError>
     ensures { IfOk result (λ registers. registers.items ≡ map (λ u. u.0) (updates_in (map update_event updates.now.items))) }
 {
     let mut registers = Vec::new(alloc);
@@ -27,8 +27,8 @@ fn updated(alloc: Global, updates: &VecDeque<Update>) -> Result<Vec<RegId>, Allo
     Ok(registers)
 }
 
-// The outputs of a process, where it has logic.
-fn outputs_at(network: &Network, process: u32) -> &[RegId]
+/// The outputs of a process, where it has logic.
+pub fn outputs_at(network: &Network, process: u32) -> &[RegId]
     ensures { (logic : Found) → slice_get network.now.logics.items process ≡ Some (Some logic) → result.now ≡ logic.outputs.items }
 {
     match logic_at(network, process) {
@@ -37,8 +37,22 @@ fn outputs_at(network: &Network, process: u32) -> &[RegId]
     }
 }
 
-// The outputs of these processes.
-fn outputs(alloc: Global, network: &Network, members: &[u32]) -> Result<Vec<RegId>, AllocError>
+/// The registers that a process waits for, where it has logic.
+pub fn inputs_at(network: &Network, process: u32) -> &[RegId]
+    ensures { (logic : Found) → slice_get network.now.logics.items process ≡ Some (Some logic) → result.now ≡ logic.inputs.items }
+{
+    match logic_at(network, process) {
+        Some(logic) => logic.inputs.as_slice(),
+        None => &[],
+    }
+}
+
+/// The outputs of these processes.
+pub fn outputs_of(
+    alloc: Global,
+    network: &Network,
+    members: &[u32],
+) -> Result<Vec<RegId>, AllocError>
     ensures { IfOk result (λ registers. HaveOutputs network.now members.now registers.items) }
 {
     let mut registers = Vec::new(alloc);
@@ -122,8 +136,8 @@ fn reached(
     Ok(members)
 }
 
-// Whether a turn met `$finish`.
-fn is_over(machine: &Machine<'_>) -> bool
+/// Whether a turn met `$finish`.
+pub(crate) fn is_over(machine: &Machine<'_>) -> bool
     ensures { result ≡ false → (state_at machine.now).finished ≡ false }
 {
     machine.is_finished()
@@ -143,7 +157,7 @@ fn is_phase(
 {
     let state = machine.state();
     let controls = machine.design().event_controls();
-    let outputs = outputs(alloc, network, members)?;
+    let outputs = outputs_of(alloc, network, members)?;
     if is_over(machine) {
         return Ok(false);
     }
@@ -160,11 +174,11 @@ fn is_phase(
     if !others_sleep(controls, state.processes(), members, &outputs) {
         return Ok(false);
     }
-    are_members(alloc, machine, network, members)
+    Ok(are_members(machine, network, members))
 }
 
-/// The processes that settle from the state of a machine, where it is a phase: all that is active are updates and turns of combinational
-/// processes, and nobody else waits for what these may change. None where that isn't told.
+/// The processes that may have a turn from the state of a machine on, where it is a phase: all that is active are updates and turns of
+/// combinational processes, and nobody else waits for what these may change. None where that isn't told.
 pub fn phase_of(
     alloc: Global,
     machine: &Machine<'_>,

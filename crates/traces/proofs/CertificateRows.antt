@@ -1,6 +1,6 @@
 -- A certificate of two actors who count down.
 use Rattle.std.proofs.Common.{◌≡◌, ◌≢◌, ◌⊎◌, Bool, true, false, List, [], ◌∷◌, inl, inr, refl, sym}
-use Rattle.traces.specs.Traces.{Runs, printed}
+use Rattle.traces.specs.Traces.{IsRunOfMoves, printed_by_steps}
 use Rattle.traces.specs.Certificates.{HaveSwaps, IsCertificate}
 use Rattle.traces.proofs.TraceRows.{none_some, Counts, counters, has_waited, counters_are_moves, turns, true_false}
 use Rattle.traces.proofs.Certificates.{certificate_stands_for_all}
@@ -44,6 +44,6 @@ nobody_waits true waits = none_some waits.0 waits.1
 nobody_waits false waits = none_some waits.0 waits.1
 
 -- so each run from there to where nobody waits comes to the same, and prints two letters
-all_the_same : (w : List (Bool × Bool)) (u : Counts) → Runs counters (2, 1) w u → ((a : Bool) → counters.Waits u a → ⊥) → (u ≡ (0, 0)) × (printed counters.prints w ≡ 65 ∷ 65 ∷ [])
+all_the_same : (w : List (Bool × Bool)) (u : Counts) → IsRunOfMoves counters (2, 1) w u → ((a : Bool) → counters.Waits u a → ⊥) → (u ≡ (0, 0)) × (printed_by_steps counters.prints w ≡ 65 ∷ 65 ∷ [])
 all_the_same w u run over =
     certificate_stands_for_all counters (2, 1) (0, 0) u turns w counters_are_moves counters_have_swaps certificate nobody_waits run over

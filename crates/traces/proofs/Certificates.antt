@@ -1,6 +1,6 @@
 -- A certificate stands for all runs from its start.
 use Rattle.std.proofs.Common.{◌≡◌, ◌≢◌, ◌⊎◌, ℕ, List, [], ◌∷◌, ◌++◌, inl, inr, refl, sym, ap, ◌∙◌, subst, append_assoc, append-nil}
-use Rattle.traces.specs.Traces.{Moves, AreMoves, Runs, printed, NoneEnds}
+use Rattle.traces.specs.Traces.{Moves, AreMoves, IsRunOfMoves, printed_by_steps, NoneEnds}
 use Rattle.traces.specs.Certificates.{HaveSwaps, EachComesOrIsApart, IsCertificate, EachGoesOn, CertificateStandsForAll, HoldsOf}
 
 -- the first step of an actor is taken out of some steps, and none before it may give him an event
@@ -32,7 +32,7 @@ module _ (S L F : Type 0) (moves : Moves S L F) where
       let (taken, more) = holds_of_taken Fact v r b g takes holds in
       (taken, subst (λ z. HoldsOf Fact z) (sym same) (fact, more))
 
-  pub runs_of : (s t : S) (v : List (L × F)) → IsCertificate moves s v t → Runs moves s v t
+  pub runs_of : (s t : S) (v : List (L × F)) → IsCertificate moves s v t → IsRunOfMoves moves s v t
   runs_of s t [] is = is
   runs_of s t (x ∷ v) (m, step, free, gives, each, cert) = (m, step, runs_of m t v cert)
 
@@ -69,7 +69,7 @@ module _ (S L F : Type 0) (moves : Moves S L F) (laws : AreMoves moves) where
     abbrev Residue : S → L → List (L × F) → S → Type 0
     Residue s b v t =
         (g : F) × (m : S) × (y : List (L × F)) × (r : S) × moves.Steps s b g m × (moves.Ends g → ⊥) × IsCertificate moves m y r × moves.Alike r t × Takes moves b g v y
-        × (printed moves.prints v ≡ moves.prints g ++ printed moves.prints y)
+        × (printed_by_steps moves.prints v ≡ moves.prints g ++ printed_by_steps moves.prints y)
 
     taken_later : (s m t : S) (x : L × F) (v : List (L × F)) (b : L) → moves.Steps s x.0 x.1 m → (moves.Ends x.1 → ⊥) → ((c : L) → c ≢ x.0 → moves.Gives x.1 c → moves.Waits s c → ⊥)
         → EachComesOrIsApart moves x.1 (λ c. (c ≡ x.0) ⊎ moves.Gives x.1 c) v → b ≢ x.0 → moves.Waits s b → Residue m b v t → Residue s b (x ∷ v) t
@@ -95,7 +95,7 @@ module _ (S L F : Type 0) (moves : Moves S L F) (laws : AreMoves moves) where
           (w, over, free, gives', each', cert'),
           laws.through r' r t (laws.back r r' near_r) near,
           inr (y, unlike, never, refl, takes),
-          taken_prints (moves.prints x.1) (moves.prints g) (printed moves.prints y) (printed moves.prints v) (laws.either_way x.1 g apart) prints,
+          taken_prints (moves.prints x.1) (moves.prints g) (printed_by_steps moves.prints y) (printed_by_steps moves.prints v) (laws.either_way x.1 g apart) prints,
         )
 
     -- whoever waits may take his first step of a certificate first
@@ -112,9 +112,9 @@ module _ (S L F : Type 0) (moves : Moves S L F) (laws : AreMoves moves) where
     -- what is left of a certificate after a run
     abbrev Left : List (L × F) → S → List (L × F) → S → Type 0
     Left w u v t =
-        (rest : List (L × F)) × (r : S) × IsCertificate moves u rest r × moves.Alike r t × (printed moves.prints w ++ printed moves.prints rest ≡ printed moves.prints v)
+        (rest : List (L × F)) × (r : S) × IsCertificate moves u rest r × moves.Alike r t × (printed_by_steps moves.prints w ++ printed_by_steps moves.prints rest ≡ printed_by_steps moves.prints v)
 
-    left : (s t u : S) (v w : List (L × F)) → IsCertificate moves s v t → ((a : L) → moves.Waits t a → ⊥) → Runs moves s w u → Left w u v t
+    left : (s t u : S) (v w : List (L × F)) → IsCertificate moves s v t → ((a : L) → moves.Waits t a → ⊥) → IsRunOfMoves moves s w u → Left w u v t
     left s t u v [] cert over is = (v, t, subst (λ z. IsCertificate moves z v t) is cert, laws.itself t, refl)
     left s t u v (x ∷ w) cert over (m, step, run) =
         let (g, n, y, r, step', free, cert', near, takes, prints) = taken_first s t v x.0 cert over (laws.waiting s m x.0 x.1 step) in
@@ -126,14 +126,14 @@ module _ (S L F : Type 0) (moves : Moves S L F) (laws : AreMoves moves) where
           q,
           cert_q,
           laws.through q r' t near_q near_t,
-          append_assoc (moves.prints x.1) (printed moves.prints w) (printed moves.prints rest)
+          append_assoc (moves.prints x.1) (printed_by_steps moves.prints w) (printed_by_steps moves.prints rest)
               ∙ ap (λ z. moves.prints x.1 ++ z) prints'
-              ∙ ap (λ z. moves.prints z ++ printed moves.prints y) same
+              ∙ ap (λ z. moves.prints z ++ printed_by_steps moves.prints y) same
               ∙ sym prints,
         )
 
     -- what holds of a certificate's steps holds of each run's
-    holds_along : (Fact : F → Type 0) (s t u : S) (v w : List (L × F)) → IsCertificate moves s v t → ((a : L) → moves.Waits t a → ⊥) → HoldsOf Fact v → Runs moves s w u → HoldsOf Fact w
+    holds_along : (Fact : F → Type 0) (s t u : S) (v w : List (L × F)) → IsCertificate moves s v t → ((a : L) → moves.Waits t a → ⊥) → HoldsOf Fact v → IsRunOfMoves moves s w u → HoldsOf Fact w
     holds_along Fact s t u v [] cert over holds run = tt
     holds_along Fact s t u v (x ∷ w) cert over holds (m, step, run) =
         let (g, n, y, r, step', free, cert', near, takes, prints) = taken_first s t v x.0 cert over (laws.waiting s m x.0 x.1 step) in
@@ -143,31 +143,31 @@ module _ (S L F : Type 0) (moves : Moves S L F) (laws : AreMoves moves) where
         let (fact, more) = holds_of_taken S L F moves Fact v y x.0 g takes holds in
         (subst Fact (sym same) fact, holds_along Fact m r' u y w cert'' (nobody_alike t r' (laws.back r' t near_t) over) more run)
 
-    pub free_along : (s t u : S) (v w : List (L × F)) → IsCertificate moves s v t → ((a : L) → moves.Waits t a → ⊥) → Runs moves s w u → NoneEnds moves.Ends w
+    pub free_along : (s t u : S) (v w : List (L × F)) → IsCertificate moves s v t → ((a : L) → moves.Waits t a → ⊥) → IsRunOfMoves moves s w u → NoneEnds moves.Ends w
     free_along s t u v w cert over run =
         free_holds S L F moves w (holds_along (λ f. moves.Ends f → ⊥) s t u v w cert over (holds_free S L F moves v (free_of S L F moves s t v cert)) run)
 
-    pub fact_along : (Fact : F → Type 0) (s t u : S) (v w : List (L × F)) → IsCertificate moves s v t → ((a : L) → moves.Waits t a → ⊥) → HoldsOf Fact v → Runs moves s w u → HoldsOf Fact w
+    pub fact_along : (Fact : F → Type 0) (s t u : S) (v w : List (L × F)) → IsCertificate moves s v t → ((a : L) → moves.Waits t a → ⊥) → HoldsOf Fact v → IsRunOfMoves moves s w u → HoldsOf Fact w
     fact_along = holds_along
 
-    pub goes_on_from : (s t u : S) (v w : List (L × F)) → IsCertificate moves s v t → ((a : L) → moves.Waits t a → ⊥) → Runs moves s w u
-        → (rest : List (L × F)) × (r : S) × Runs moves u rest r × moves.Alike r t × NoneEnds moves.Ends w × NoneEnds moves.Ends rest
-        × (printed moves.prints w ++ printed moves.prints rest ≡ printed moves.prints v)
+    pub goes_on_from : (s t u : S) (v w : List (L × F)) → IsCertificate moves s v t → ((a : L) → moves.Waits t a → ⊥) → IsRunOfMoves moves s w u
+        → (rest : List (L × F)) × (r : S) × IsRunOfMoves moves u rest r × moves.Alike r t × NoneEnds moves.Ends w × NoneEnds moves.Ends rest
+        × (printed_by_steps moves.prints w ++ printed_by_steps moves.prints rest ≡ printed_by_steps moves.prints v)
     goes_on_from s t u v w cert over run =
         let (rest, r, cert', near, prints) = left s t u v w cert over run in
         (rest, r, runs_of S L F moves u r rest cert', near, free_along s t u v w cert over run, free_of S L F moves u r rest cert', prints)
 
-    none_left : (u r t : S) (p q : List ℕ) (rest : List (L × F)) → Runs moves u rest r → moves.Alike r t → p ++ printed moves.prints rest ≡ q → ((a : L) → moves.Waits u a → ⊥) → moves.Alike u t × (p ≡ q)
+    none_left : (u r t : S) (p q : List ℕ) (rest : List (L × F)) → IsRunOfMoves moves u rest r → moves.Alike r t → p ++ printed_by_steps moves.prints rest ≡ q → ((a : L) → moves.Waits u a → ⊥) → moves.Alike u t × (p ≡ q)
     none_left u r t p q [] is near prints over = (subst (λ z. moves.Alike z t) (sym is) near, sym (append-nil p) ∙ prints)
     none_left u r t p q (x ∷ rest) (m, step, run) near prints over = absurd (over x.0 (laws.waiting u m x.0 x.1 step))
 
-    pub all_alike : (s t u : S) (v w : List (L × F)) → IsCertificate moves s v t → ((a : L) → moves.Waits t a → ⊥) → Runs moves s w u → ((a : L) → moves.Waits u a → ⊥) → moves.Alike u t × (printed moves.prints w ≡ printed moves.prints v)
+    pub all_alike : (s t u : S) (v w : List (L × F)) → IsCertificate moves s v t → ((a : L) → moves.Waits t a → ⊥) → IsRunOfMoves moves s w u → ((a : L) → moves.Waits u a → ⊥) → moves.Alike u t × (printed_by_steps moves.prints w ≡ printed_by_steps moves.prints v)
     all_alike s t u v w cert over run over' =
         let (rest, r, run', near, free, free', prints) = goes_on_from s t u v w cert over run in
-        none_left u r t (printed moves.prints w) (printed moves.prints v) rest run' near prints over'
+        none_left u r t (printed_by_steps moves.prints w) (printed_by_steps moves.prints v) rest run' near prints over'
 
     -- whoever waits after a run steps
-    pub steps_on : (s t u : S) (v w : List (L × F)) (a : L) → IsCertificate moves s v t → ((b : L) → moves.Waits t b → ⊥) → Runs moves s w u → moves.Waits u a → (f : F) × (n : S) × moves.Steps u a f n
+    pub steps_on : (s t u : S) (v w : List (L × F)) (a : L) → IsCertificate moves s v t → ((b : L) → moves.Waits t b → ⊥) → IsRunOfMoves moves s w u → moves.Waits u a → (f : F) × (n : S) × moves.Steps u a f n
     steps_on s t u v w a cert over run waits =
         let (rest, r, cert', near, prints) = left s t u v w cert over run in
         let (g, n, y, q, step, free, cert_y, near_q, takes, prints_y) = taken_first u r rest a cert' (nobody_alike t r (laws.back r t near) over) waits in

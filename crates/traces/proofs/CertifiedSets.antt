@@ -1,8 +1,8 @@
 -- A certificate of a set of actors stands for all that the set does.
 use Rattle.std.proofs.Common.{◌≡◌, Bool, true, List, [], ◌∷◌, ◌++◌, refl, sym}
 use Rattle.std.specs.List.{Contains}
-use Rattle.traces.specs.Traces.{Moves, AreMoves, Runs, printed}
-use Rattle.traces.specs.StandsFor.{RunsAlone, Found, IsFound, StandsFor}
+use Rattle.traces.specs.Traces.{Moves, AreMoves, IsRunOfMoves, printed_by_steps}
+use Rattle.traces.specs.StandsFor.{RunsAlone, FoundOfSet, HasWayTo, StandsFor}
 use Rattle.traces.specs.Restricted.{restricted}
 use Rattle.traces.specs.Certificates.{HaveSwaps, IsCertificate, HoldsOf, CertificateStandsFor}
 use Rattle.traces.proofs.RunLaws.{runs_both}
@@ -13,7 +13,7 @@ holds_last : {L F : Type 0} (Fact : F → Type 0) (w : List (L × F)) (a : L) (f
 holds_last Fact [] a f holds = holds.0
 holds_last Fact (x ∷ w) a f holds = holds_last Fact w a f holds.1
 
-module _ (S L F Y : Type 0) (moves : Moves S L F) (Within : F → Y → Type 0) (laws : AreMoves moves) (swaps : HaveSwaps moves) (among : L → Bool) (s t : S) (v : List (L × F)) (found : Found L F Y)
+module _ (S L F Y : Type 0) (moves : Moves S L F) (Within : F → Y → Type 0) (laws : AreMoves moves) (swaps : HaveSwaps moves) (among : L → Bool) (s t : S) (v : List (L × F)) (found : FoundOfSet L F Y)
     (cert : IsCertificate (restricted moves among) s v t) (over : (a : L) → among a ≡ true → moves.Waits t a → ⊥) where
   abbrev inner : Moves S L F
   inner = restricted moves among
@@ -34,13 +34,13 @@ module _ (S L F Y : Type 0) (moves : Moves S L F) (Within : F → Y → Type 0) 
   nobody : (a : L) → inner.Waits t a → ⊥
   nobody a waits = over a waits.0 waits.1
 
-  inside : (w : List (L × F)) (u : S) → RunsAlone moves among s w u → Runs inner s w u
+  inside : (w : List (L × F)) (u : S) → RunsAlone moves among s w u → IsRunOfMoves inner s w u
   inside w u alone = goes_in S L F moves among s u w alone.0 alone.1
 
   -- what holds of the certificate's steps holds of each step that the set takes
   of_step : (Fact : F → Type 0) → HoldsOf Fact v → (w : List (L × F)) (r u : S) (a : L) (f : F) → RunsAlone moves among s w r → among a ≡ true → moves.Steps r a f u → Fact f
   of_step Fact holds w r u a f alone own step =
-      let run : Runs inner s (w ++ ((a, f) ∷ [])) u = runs_both S L F inner s r u w ((a, f) ∷ []) (inside w r alone) (u, (own, step), refl) in
+      let run : IsRunOfMoves inner s (w ++ ((a, f) ∷ [])) u = runs_both S L F inner s r u w ((a, f) ∷ []) (inside w r alone) (u, (own, step), refl) in
       holds_last Fact w a f (fact_along S L F inner inner_laws inner_swaps Fact s t u v (w ++ ((a, f) ∷ [])) cert nobody holds run)
 
   never_ends : (w : List (L × F)) (r u : S) (a : L) (f : F) → RunsAlone moves among s w r → among a ≡ true → moves.Steps r a f u → moves.Ends f → ⊥
@@ -52,10 +52,10 @@ module _ (S L F Y : Type 0) (moves : Moves S L F) (Within : F → Y → Type 0) 
       let (f, u, step) = steps_on S L F inner inner_laws inner_swaps s t r v w a cert nobody (inside w r alone) (own, waits) in
       (f, u, step.1)
 
-  whole_by : Contains found.ways v → (w : List (L × F)) (r : S) → RunsAlone moves among s w r → ((a : L) → among a ≡ true → moves.Waits r a → ⊥) → IsFound moves among s found.ways r (printed moves.prints w)
+  whole_by : Contains found.ways v → (w : List (L × F)) (r : S) → RunsAlone moves among s w r → ((a : L) → among a ≡ true → moves.Waits r a → ⊥) → HasWayTo moves among s found.ways r (printed_by_steps moves.prints w)
   whole_by there w r alone over' =
       let (near, prints) = all_alike S L F inner inner_laws inner_swaps s t r v w cert nobody (inside w r alone) (λ a waits. over' a waits.0 waits.1) in
-      let run : Runs inner s v t = runs_of S L F inner s t v cert in
+      let run : IsRunOfMoves inner s v t = runs_of S L F inner s t v cert in
       (v, t, there, (goes_out S L F moves among s t v run, actors_of S L F moves among s t v run, free_of S L F inner s t v cert), near, sym prints)
 
   pub certified : HoldsOf (λ f. Within f found.summary × ((b : L) → moves.Gives f b → among b ≡ true)) v → Contains found.ways v → StandsFor moves Within among s found

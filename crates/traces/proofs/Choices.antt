@@ -1,6 +1,6 @@
 -- Ways chosen for some parts.
 use Rattle.std.proofs.Common.{◌≡◌, ◌⊎◌, ℕ, List, [], ◌∷◌, ◌++◌, inl, inr, refl, sym, ap, ◌∙◌, subst}
-use Rattle.traces.specs.Traces.{Moves, AreMoves, Runs, printed, NoneEnds, IsNoneOf, IsOneOf, IsOnceIn, AreOnceIn, AreParts, IsWay, HaveWays, all_ways}
+use Rattle.traces.specs.Traces.{Moves, AreMoves, IsRunOfMoves, printed_by_steps, NoneEnds, IsNoneOf, IsOneOf, IsOnceIn, AreOnceIn, ArePartsApart, IsWayOfPart, HaveWays, all_ways}
 use Rattle.traces.specs.StandsFor.{AreDifferent}
 use Rattle.traces.proofs.PartLists.{same_or_other, printed_both}
 use Rattle.traces.proofs.Squares.{at_once}
@@ -44,7 +44,7 @@ module _ (X : Type 0) (P : ℕ → X → Type 0) (default : X) (ks : List ℕ) (
   is_chosen k one = picked_by k (one_or_none k ks) one
 
 module _ (S L F : Type 0) (moves : Moves S L F) (part : L → ℕ) where
-  pub have_ways : (s : S) (ways : ℕ → List (L × F)) (ks : List ℕ) → AreDifferent ks → ((k : ℕ) → IsOneOf k ks → IsWay moves part s k (ways k)) → HaveWays moves part s ways ks
+  pub have_ways : (s : S) (ways : ℕ → List (L × F)) (ks : List ℕ) → AreDifferent ks → ((k : ℕ) → IsOneOf k ks → IsWayOfPart moves part s k (ways k)) → HaveWays moves part s ways ks
   have_ways s ways [] different h = tt
   have_ways s ways (k ∷ ks) (none, different) h = (none, h k (inl refl), have_ways s ways ks different (λ j one. h j (inr one)))
 
@@ -56,18 +56,18 @@ module _ (S L F : Type 0) (moves : Moves S L F) (part : L → ℕ) where
   none_all s ways [] have = tt
   none_all s ways (k ∷ ks) (alone, (u, run, of, none), have) = none_both (ways k) (all_ways ways ks) none (none_all s ways ks have)
 
-  pub same_prints : (ways others : ℕ → List (L × F)) (ks : List ℕ) → ((k : ℕ) → IsOneOf k ks → printed moves.prints (ways k) ≡ printed moves.prints (others k))
-      → printed moves.prints (all_ways ways ks) ≡ printed moves.prints (all_ways others ks)
+  pub same_prints : (ways others : ℕ → List (L × F)) (ks : List ℕ) → ((k : ℕ) → IsOneOf k ks → printed_by_steps moves.prints (ways k) ≡ printed_by_steps moves.prints (others k))
+      → printed_by_steps moves.prints (all_ways ways ks) ≡ printed_by_steps moves.prints (all_ways others ks)
   same_prints ways others [] h = refl
   same_prints ways others (k ∷ ks) h =
       printed_both S L F moves (ways k) (all_ways ways ks)
-      ∙ ap (λ z. z ++ printed moves.prints (all_ways ways ks)) (h k (inl refl))
-      ∙ ap (λ z. printed moves.prints (others k) ++ z) (same_prints ways others ks (λ j one. h j (inr one)))
+      ∙ ap (λ z. z ++ printed_by_steps moves.prints (all_ways ways ks)) (h k (inl refl))
+      ∙ ap (λ z. printed_by_steps moves.prints (others k) ++ z) (same_prints ways others ks (λ j one. h j (inr one)))
       ∙ sym (printed_both S L F moves (others k) (all_ways others ks))
 
 module _ (S L F : Type 0) (moves : Moves S L F) (laws : AreMoves moves) (part : L → ℕ) (ks : List ℕ) (different : AreDifferent ks) where
   -- where the parts of all who wait are among some, so are those of all who step
-  pub all_once : (s t : S) (w : List (L × F)) → AreParts moves part s → Runs moves s w t → NoneEnds moves.Ends w → ((a : L) → moves.Waits s a → IsOneOf (part a) ks) → AreOnceIn part ks w
+  pub all_once : (s t : S) (w : List (L × F)) → ArePartsApart moves part s → IsRunOfMoves moves s w t → NoneEnds moves.Ends w → ((a : L) → moves.Waits s a → IsOneOf (part a) ks) → AreOnceIn part ks w
   all_once s t [] parts run none all = tt
   all_once s t (x ∷ w) parts (m, step, later) (free, none) all =
       let first : IsOneOf (part x.0) ks = all x.0 (laws.waiting s m x.0 x.1 step) in

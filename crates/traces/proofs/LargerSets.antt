@@ -1,7 +1,7 @@
 -- What stands for all that a set of actors does stands for all that a larger set does, of which nobody else waits.
 use Rattle.std.proofs.Common.{◌≡◌, Bool, true, List, [], ◌∷◌, ◌++◌, inl, inr, refl, sym, subst}
-use Rattle.traces.specs.Traces.{Moves, AreMoves, Runs, printed, NoneEnds, AreAmong}
-use Rattle.traces.specs.StandsFor.{RunsAlone, Found, IsFound, StandsFor, LargerSets}
+use Rattle.traces.specs.Traces.{Moves, AreMoves, IsRunOfMoves, printed_by_steps, NoneEnds, AreAmong}
+use Rattle.traces.specs.StandsFor.{RunsAlone, FoundOfSet, HasWayTo, StandsFor, LargerSets}
 use Rattle.traces.proofs.RunLaws.{runs_both}
 
 among_both : {L F : Type 0} (Has : L → Type 0) (x y : List (L × F)) → AreAmong Has x → AreAmong Has y → AreAmong Has (x ++ y)
@@ -16,7 +16,7 @@ among_more : {L F : Type 0} (among others : L → Bool) → ((a : L) → among a
 among_more among others more [] of = tt
 among_more among others more (x ∷ w) (own, of) = (more x.0 own, among_more among others more w of)
 
-module _ (S L F Y : Type 0) (moves : Moves S L F) (Within : F → Y → Type 0) (laws : AreMoves moves) (among others : L → Bool) (s : S) (found : Found L F Y)
+module _ (S L F Y : Type 0) (moves : Moves S L F) (Within : F → Y → Type 0) (laws : AreMoves moves) (among others : L → Bool) (s : S) (found : FoundOfSet L F Y)
     (more : (a : L) → among a ≡ true → others a ≡ true) (stands : StandsFor moves Within among s found) where
   -- whoever is of the larger set and waits is of the smaller
   abbrev OwnWait : S → Type 0
@@ -37,7 +37,7 @@ module _ (S L F Y : Type 0) (moves : Moves S L F) (Within : F → Y → Type 0) 
   )
 
   -- a run of the larger set is one of the smaller
-  rest_own : (w y : List (L × F)) (m t : S) → RunsAlone moves among s w m → OwnWait m → Runs moves m y t → AreAmong (λ a. others a ≡ true) y → NoneEnds moves.Ends y → AreAmong (λ a. among a ≡ true) y × OwnWait t
+  rest_own : (w y : List (L × F)) (m t : S) → RunsAlone moves among s w m → OwnWait m → IsRunOfMoves moves m y t → AreAmong (λ a. others a ≡ true) y → NoneEnds moves.Ends y → AreAmong (λ a. among a ≡ true) y × OwnWait t
   rest_own w [] m t alone own is of none = (tt, λ a is' waits. own a is' (subst (λ z. moves.Waits z a) (sym is) waits))
   rest_own w (x ∷ y) m t alone own (n, step, run) (is, of) (free, none) =
       let first : among x.0 ≡ true = own x.0 is (laws.waiting m n x.0 x.1 step) in
@@ -58,7 +58,7 @@ module _ (S L F Y : Type 0) (moves : Moves S L F) (Within : F → Y → Type 0) 
         let (alone', last) = narrow w t alone in
         stands.goes_on w t a alone' (last a is waits) waits
 
-    whole_by : (w : List (L × F)) (t : S) → RunsAlone moves others s w t → ((a : L) → others a ≡ true → moves.Waits t a → ⊥) → IsFound moves others s found.ways t (printed moves.prints w)
+    whole_by : (w : List (L × F)) (t : S) → RunsAlone moves others s w t → ((a : L) → others a ≡ true → moves.Waits t a → ⊥) → HasWayTo moves others s found.ways t (printed_by_steps moves.prints w)
     whole_by w t alone over =
         let (y, u, there, (run, of, none), near, prints) = stands.whole w t (narrow w t alone).0 (λ a is waits. over a (more a is) waits) in
         (y, u, there, (run, among_more among others more y of, none), near, prints)

@@ -1,6 +1,6 @@
 -- Lists of steps, and those of one part among them.
 use Rattle.std.proofs.Common.{◌≡◌, ◌≢◌, ◌⊎◌, ℕ, Bool, true, false, cond, ◌==◌, List, [], ◌∷◌, ◌++◌, inl, inr, refl, sym, ap, ◌∙◌, append_assoc, eq-eqb, eqb-true, ne_eqb}
-use Rattle.traces.specs.Traces.{Moves, printed, NoneEnds, AreOf, of_part, in_order, IsNoneOf}
+use Rattle.traces.specs.Traces.{Moves, printed_by_steps, NoneEnds, AreOfPart, of_part, in_order, IsNoneOf}
 
 -- a test is true or false
 both_ways : (b : Bool) → b ≡ true → b ≡ false → ⊥
@@ -17,7 +17,7 @@ same_or_other i k = by_test i k (i == k) refl
 
 module _ (L F : Type 0) (part : L → ℕ) (k : ℕ) where
   -- steps of one part before others of it
-  pub own_both : (x y : List (L × F)) → AreOf part k x → AreOf part k y → AreOf part k (x ++ y)
+  pub own_both : (x y : List (L × F)) → AreOfPart part k x → AreOfPart part k y → AreOfPart part k (x ++ y)
   own_both [] y of of' = of'
   own_both (s ∷ x) y (own, of) of' = (own, own_both x y of of')
 
@@ -27,11 +27,11 @@ module _ (L F : Type 0) (part : L → ℕ) (k : ℕ) where
   pub other_first : (x : L × F) (w : List (L × F)) → part x.0 ≢ k → of_part part k (x ∷ w) ≡ of_part part k w
   other_first x w other = ap (λ (b : Bool). cond b (x ∷ of_part part k w) (of_part part k w)) (ne_eqb (part x.0) k other)
 
-  own_if : (x : L × F) (w : List (L × F)) (b : Bool) → (part x.0 == k) ≡ b → AreOf part k w → AreOf part k (cond b (x ∷ w) w)
+  own_if : (x : L × F) (w : List (L × F)) (b : Bool) → (part x.0 == k) ≡ b → AreOfPart part k w → AreOfPart part k (cond b (x ∷ w) w)
   own_if x w true e of = (eqb-true (part x.0) k e, of)
   own_if x w false e of = of
 
-  pub own_steps : (w : List (L × F)) → AreOf part k (of_part part k w)
+  pub own_steps : (w : List (L × F)) → AreOfPart part k (of_part part k w)
   own_steps [] = tt
   own_steps (x ∷ w) = own_if x (of_part part k w) (part x.0 == k) refl (own_steps w)
 
@@ -44,9 +44,9 @@ module _ (S L F : Type 0) (moves : Moves S L F) where
   none_of_part part k [] none = tt
   none_of_part part k (x ∷ w) (free, none) = free_if x (of_part part k w) (part x.0 == k) free (none_of_part part k w none)
 
-  pub printed_both : (x y : List (L × F)) → printed moves.prints (x ++ y) ≡ printed moves.prints x ++ printed moves.prints y
+  pub printed_both : (x y : List (L × F)) → printed_by_steps moves.prints (x ++ y) ≡ printed_by_steps moves.prints x ++ printed_by_steps moves.prints y
   printed_both [] y = refl
-  printed_both (s ∷ x) y = ap (λ z. moves.prints s.1 ++ z) (printed_both x y) ∙ sym (append_assoc (moves.prints s.1) (printed moves.prints x) (printed moves.prints y))
+  printed_both (s ∷ x) y = ap (λ z. moves.prints s.1 ++ z) (printed_both x y) ∙ sym (append_assoc (moves.prints s.1) (printed_by_steps moves.prints x) (printed_by_steps moves.prints y))
 
 module _ (L F : Type 0) (part : L → ℕ) where
   -- a step of a part that isn't among some leaves no trace in their order

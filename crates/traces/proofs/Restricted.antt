@@ -1,6 +1,6 @@
 -- The moves of some actors alone are a system of moves again.
 use Rattle.std.proofs.Common.{◌≡◌, ℕ, Bool, true, false, ◌&&◌, ◌==◌, List, [], ◌∷◌, inl, inr, refl, eq-eqb, eqb-true, ap, ◌∙◌}
-use Rattle.traces.specs.Traces.{Moves, AreMoves, Runs, AreAmong, AreOf}
+use Rattle.traces.specs.Traces.{Moves, AreMoves, IsRunOfMoves, AreAmong, AreOfPart}
 use Rattle.traces.specs.StandsFor.{of_both}
 pub use Rattle.traces.specs.Restricted.{restricted}
 
@@ -56,20 +56,20 @@ module _ (S L F : Type 0) (moves : Moves S L F) (among : L → Bool) where
       }
 
   -- a run of the set's moves is a run of actors of the set
-  pub goes_out : (s t : S) (w : List (L × F)) → Runs (restricted moves among) s w t → Runs moves s w t
+  pub goes_out : (s t : S) (w : List (L × F)) → IsRunOfMoves (restricted moves among) s w t → IsRunOfMoves moves s w t
   goes_out s t [] is = is
   goes_out s t (x ∷ w) (m, step, run) = (m, step.1, goes_out m t w run)
 
-  pub actors_of : (s t : S) (w : List (L × F)) → Runs (restricted moves among) s w t → AreAmong (λ a. among a ≡ true) w
+  pub actors_of : (s t : S) (w : List (L × F)) → IsRunOfMoves (restricted moves among) s w t → AreAmong (λ a. among a ≡ true) w
   actors_of s t [] is = tt
   actors_of s t (x ∷ w) (m, step, run) = (step.0, actors_of m t w run)
 
-  pub goes_in : (s t : S) (w : List (L × F)) → Runs moves s w t → AreAmong (λ a. among a ≡ true) w → Runs (restricted moves among) s w t
+  pub goes_in : (s t : S) (w : List (L × F)) → IsRunOfMoves moves s w t → AreAmong (λ a. among a ≡ true) w → IsRunOfMoves (restricted moves among) s w t
   goes_in s t [] is of = is
   goes_in s t (x ∷ w) (m, step, run) (own, of) = (m, (own, step), goes_in m t w run of)
 
   -- of the set and of one part
-  pub both_among : (part : L → ℕ) (k : ℕ) (w : List (L × F)) → AreAmong (λ a. among a ≡ true) w → AreOf part k w → AreAmong (λ a. of_both among part k a ≡ true) w
+  pub both_among : (part : L → ℕ) (k : ℕ) (w : List (L × F)) → AreAmong (λ a. among a ≡ true) w → AreOfPart part k w → AreAmong (λ a. of_both among part k a ≡ true) w
   both_among part k [] of of' = tt
   both_among part k (x ∷ w) (own, of) (is, of') = (in_both L among part k x.0 own is, both_among part k w of of')
 
@@ -77,6 +77,6 @@ module _ (S L F : Type 0) (moves : Moves S L F) (among : L → Bool) where
   set_among part k [] of = tt
   set_among part k (x ∷ w) (own, of) = (in_set L among part k x.0 own, set_among part k w of)
 
-  pub part_among : (part : L → ℕ) (k : ℕ) (w : List (L × F)) → AreAmong (λ a. of_both among part k a ≡ true) w → AreOf part k w
+  pub part_among : (part : L → ℕ) (k : ℕ) (w : List (L × F)) → AreAmong (λ a. of_both among part k a ≡ true) w → AreOfPart part k w
   part_among part k [] of = tt
   part_among part k (x ∷ w) (own, of) = (in_part L among part k x.0 own, part_among part k w of)

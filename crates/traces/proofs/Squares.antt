@@ -1,16 +1,16 @@
 -- One step, and a run of another part that is apart from it: each may be taken after the other.
 use Rattle.std.proofs.Common.{◌≡◌, ◌≢◌, ℕ, List, [], ◌∷◌, ◌++◌, inl, inr, refl, sym, ap, ◌∙◌, subst, append_assoc, append-nil}
-use Rattle.traces.specs.Traces.{Moves, AreMoves, Runs, printed, NoneEnds, AreOf, Does, GoesOn}
+use Rattle.traces.specs.Traces.{Moves, AreMoves, IsRunOfMoves, printed_by_steps, NoneEnds, AreOfPart, PartDoes, PartGoesOn}
 use Rattle.traces.proofs.RunLaws.{alike_runs, followed}
 
 -- What a part does alone from a state, seen from a step that isn't its own.
 pub record Beside {S L F : Type 0} (moves : Moves S L F) (part : L → ℕ) (s : S) (f : F) (k : ℕ) : Type 0 where
   -- all of it is apart from the step
-  pub apart : (b : L) (g : F) → Does moves part s k b g → moves.Apart f g
+  pub apart : (b : L) (g : F) → PartDoes moves part s k b g → moves.Apart f g
   -- the step gives no event to the part
   pub kept : (b : L) → moves.Gives f b → part b ≢ k
   -- no turn of the part is too long
-  pub goes_on : GoesOn moves part s k
+  pub goes_on : PartGoesOn moves part s k
 
 -- from a state an actor steps to one that is like this
 abbrev pub StillSteps : {S L F : Type 0} → Moves S L F → L → F → S → S → Type 0
@@ -18,12 +18,12 @@ StillSteps {S} {L} {F} moves l f s n = (w : S) × moves.Steps s l f w × moves.A
 
 module _ (S L F : Type 0) (moves : Moves S L F) (part : L → ℕ) (k : ℕ) where
   -- the first step of a part
-  pub at_once : (s t : S) (b : L) (g : F) → part b ≡ k → moves.Steps s b g t → Does moves part s k b g
+  pub at_once : (s t : S) (b : L) (g : F) → part b ≡ k → moves.Steps s b g t → PartDoes moves part s k b g
   at_once s t b g own step =
       record { before = []; there = s; after = t; way = refl; own = tt; belongs = own; steps = step }
 
   -- what a part does after a step of its own, it does before it
-  pub does_after : (s t : S) (c b : L) (h g : F) → moves.Steps s c h t → part c ≡ k → Does moves part t k b g → Does moves part s k b g
+  pub does_after : (s t : S) (c b : L) (h g : F) → moves.Steps s c h t → part c ≡ k → PartDoes moves part t k b g → PartDoes moves part s k b g
   does_after s t c b h g step own d =
       record {
         before = (c, h) ∷ d.before;
@@ -35,7 +35,7 @@ module _ (S L F : Type 0) (moves : Moves S L F) (part : L → ℕ) (k : ℕ) whe
         steps = d.steps;
       }
 
-  pub goes_on_after : (s t : S) (c : L) (h : F) → moves.Steps s c h t → part c ≡ k → (moves.Ends h → ⊥) → GoesOn moves part s k → GoesOn moves part t k
+  pub goes_on_after : (s t : S) (c : L) (h : F) → moves.Steps s c h t → part c ≡ k → (moves.Ends h → ⊥) → PartGoesOn moves part s k → PartGoesOn moves part t k
   goes_on_after s t c h step own free goes w u a run of none own' waits =
       goes ((c, h) ∷ w) u a (t, step, run) (own, of) (free, none) own' waits
 
@@ -92,8 +92,8 @@ module _ (S L F : Type 0) (moves : Moves S L F) (laws : AreMoves moves) (part : 
       )
 
   -- A run of the part after the step is one before it, and the step may be taken after that.
-  pub passed_back : (s m t : S) (y : List (L × F)) → Beside moves part s f k → moves.Steps s l f m → Runs moves m y t → AreOf part k y
-      → (u : S) × Runs moves s y u × (NoneEnds moves.Ends y → StillSteps moves l f u t)
+  pub passed_back : (s m t : S) (y : List (L × F)) → Beside moves part s f k → moves.Steps s l f m → IsRunOfMoves moves m y t → AreOfPart part k y
+      → (u : S) × IsRunOfMoves moves s y u × (NoneEnds moves.Ends y → StillSteps moves l f u t)
   passed_back s m t [] beside step is of = (s, refl, λ none. (m, step, subst (λ z. moves.Alike m z) is (laws.itself m)))
   passed_back s m t (x ∷ []) beside step (n, next, is) (own, of) =
       let (u, there, apart, still) = backward s m n x.0 x.1 beside step next own in (
@@ -118,8 +118,8 @@ module _ (S L F : Type 0) (moves : Moves S L F) (laws : AreMoves moves) (part : 
       )
 
   -- A run of the part before the step is one after it, and the step may be taken after that.
-  pub passed_on : (s m u : S) (y : List (L × F)) → Beside moves part s f k → moves.Steps s l f m → Runs moves s y u → AreOf part k y
-      → (t : S) × Runs moves m y t × (NoneEnds moves.Ends y → StillSteps moves l f u t)
+  pub passed_on : (s m u : S) (y : List (L × F)) → Beside moves part s f k → moves.Steps s l f m → IsRunOfMoves moves s y u → AreOfPart part k y
+      → (t : S) × IsRunOfMoves moves m y t × (NoneEnds moves.Ends y → StillSteps moves l f u t)
   passed_on s m u [] beside step is of = (m, refl, λ none. (m, subst (λ z. moves.Steps z l f m) is step, laws.itself m))
   passed_on s m u (x ∷ []) beside step (n, there, is) (own, of) =
       let apart : moves.Apart f x.1 = beside.apart x.0 x.1 (at_once S L F moves part k s n x.0 x.1 own there) in
@@ -147,15 +147,15 @@ module _ (S L F : Type 0) (moves : Moves S L F) (laws : AreMoves moves) (part : 
 
 module _ (S L F : Type 0) (moves : Moves S L F) (laws : AreMoves moves) (part : L → ℕ) (k : ℕ) (f : F) where
   -- what a run prints that is apart from a step
-  pub printed_past : (s u : S) (y : List (L × F)) → ((b : L) (g : F) → Does moves part s k b g → moves.Apart f g) → Runs moves s y u → AreOf part k y
-      → moves.prints f ++ printed moves.prints y ≡ printed moves.prints y ++ moves.prints f
+  pub printed_past : (s u : S) (y : List (L × F)) → ((b : L) (g : F) → PartDoes moves part s k b g → moves.Apart f g) → IsRunOfMoves moves s y u → AreOfPart part k y
+      → moves.prints f ++ printed_by_steps moves.prints y ≡ printed_by_steps moves.prints y ++ moves.prints f
   printed_past s u [] apart run of = append-nil (moves.prints f)
   printed_past s u (x ∷ y) apart (n, there, later) (own, of) =
       let first : moves.Apart f x.1 = apart x.0 x.1 (at_once S L F moves part k s n x.0 x.1 own there) in
-      let rest : moves.prints f ++ printed moves.prints y ≡ printed moves.prints y ++ moves.prints f =
+      let rest : moves.prints f ++ printed_by_steps moves.prints y ≡ printed_by_steps moves.prints y ++ moves.prints f =
       printed_past n u y (λ b g d. apart b g (does_after S L F moves part k s n x.0 b x.1 g there own d)) later of in
-      sym (append_assoc (moves.prints f) (moves.prints x.1) (printed moves.prints y))
-      ∙ ap (λ z. z ++ printed moves.prints y) (laws.either_way f x.1 first)
-      ∙ append_assoc (moves.prints x.1) (moves.prints f) (printed moves.prints y)
+      sym (append_assoc (moves.prints f) (moves.prints x.1) (printed_by_steps moves.prints y))
+      ∙ ap (λ z. z ++ printed_by_steps moves.prints y) (laws.either_way f x.1 first)
+      ∙ append_assoc (moves.prints x.1) (moves.prints f) (printed_by_steps moves.prints y)
       ∙ ap (λ z. moves.prints x.1 ++ z) rest
-      ∙ sym (append_assoc (moves.prints x.1) (printed moves.prints y) (moves.prints f))
+      ∙ sym (append_assoc (moves.prints x.1) (printed_by_steps moves.prints y) (moves.prints f))

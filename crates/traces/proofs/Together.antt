@@ -1,6 +1,6 @@
 -- Ways of different parts, one after another.
 use Rattle.std.proofs.Common.{◌≡◌, ◌≢◌, ◌↔◌, ℕ, List, [], ◌∷◌, inl, inr, refl, sym, ap, ◌∙◌, subst}
-use Rattle.traces.specs.Traces.{Moves, AreMoves, Runs, NoneEnds, AreOf, IsNoneOf, IsOneOf, Does, AreParts, IsWay, HaveWays, all_ways}
+use Rattle.traces.specs.Traces.{Moves, AreMoves, IsRunOfMoves, NoneEnds, AreOfPart, IsNoneOf, IsOneOf, PartDoes, ArePartsApart, IsWayOfPart, HaveWays, all_ways}
 use Rattle.traces.specs.TraceLaws.{WaysTogether, WaysStandFor}
 use Rattle.traces.proofs.RunLaws.{runs_both, runs_split, alike_runs, runs_once}
 use Rattle.traces.proofs.Squares.{at_once, does_after, passed_on}
@@ -19,16 +19,16 @@ not_both k i (j ∷ ks) (differ, none) (inl is) same = differ (is ∙ sym same)
 not_both k i (j ∷ ks) (differ, none) (inr one) same = not_both k i ks none one same
 
 module _ (S L F : Type 0) (moves : Moves S L F) (laws : AreMoves moves) (part : L → ℕ) where
-  keeps_from : (k : ℕ) (s u : S) (w : List (L × F)) → ((a : L) (f : F) → Does moves part s k a f → (b : L) → moves.Gives f b → part b ≡ k) → Runs moves s w u → AreOf part k w → Keeps moves part k w
+  keeps_from : (k : ℕ) (s u : S) (w : List (L × F)) → ((a : L) (f : F) → PartDoes moves part s k a f → (b : L) → moves.Gives f b → part b ≡ k) → IsRunOfMoves moves s w u → AreOfPart part k w → Keeps moves part k w
   keeps_from k s u [] kept run of = tt
   keeps_from k s u (x ∷ w) kept (m, step, later) (own, of) =
       (kept x.0 x.1 (at_once S L F moves part k s m x.0 x.1 own step), keeps_from k m u w (λ a f d. kept a f (does_after S L F moves part k s m x.0 a x.1 f step own d)) later of)
 
-  keeps : (k : ℕ) (s u : S) (w : List (L × F)) → AreParts moves part s → Runs moves s w u → AreOf part k w → Keeps moves part k w
+  keeps : (k : ℕ) (s u : S) (w : List (L × F)) → ArePartsApart moves part s → IsRunOfMoves moves s w u → AreOfPart part k w → Keeps moves part k w
   keeps k s u w parts run of = keeps_from k s u w (λ a f d b gives. parts.kept k a b f d gives) run of
 
   -- steps of other parts neither take nor give an event
-  waits_past : (k : ℕ) (s u : S) (w : List (L × F)) (a : L) → Keeps moves part k w → Runs moves s w u → AreOf part k w → part a ≢ k → moves.Waits s a ↔ moves.Waits u a
+  waits_past : (k : ℕ) (s u : S) (w : List (L × F)) (a : L) → Keeps moves part k w → IsRunOfMoves moves s w u → AreOfPart part k w → part a ≢ k → moves.Waits s a ↔ moves.Waits u a
   waits_past k s u [] a kept is of other = subst (λ z. moves.Waits s a ↔ moves.Waits z a) is (λ h. h, λ h. h)
   waits_past k s u (x ∷ w) a (gives, kept) (m, step, later) (own, of) other =
       let unlike : x.0 ≢ a = λ same. other (sym (ap part same) ∙ own) in
@@ -41,10 +41,10 @@ module _ (S L F : Type 0) (moves : Moves S L F) (laws : AreMoves moves) (part : 
       both_sides (on, off) (waits_past k m u w a kept later of other)
 
   -- Runs of two parts, each after the other: both ways lead to states that are alike.
-  exchanged : (s u a : S) (x y : List (L × F)) (i k : ℕ) → i ≢ k → AreParts moves part s → Runs moves s x u → AreOf part i x → NoneEnds moves.Ends x → Runs moves s y a → AreOf part k y → NoneEnds moves.Ends y
-      → (b : S) × (c : S) × Runs moves u y b × Runs moves a x c × moves.Alike c b
+  exchanged : (s u a : S) (x y : List (L × F)) (i k : ℕ) → i ≢ k → ArePartsApart moves part s → IsRunOfMoves moves s x u → AreOfPart part i x → NoneEnds moves.Ends x → IsRunOfMoves moves s y a → AreOfPart part k y → NoneEnds moves.Ends y
+      → (b : S) × (c : S) × IsRunOfMoves moves u y b × IsRunOfMoves moves a x c × moves.Alike c b
   exchanged s u a [] y i k differ parts is of none run of' none' =
-      (a, a, subst (λ z. Runs moves z y a) is run, refl, laws.itself a)
+      (a, a, subst (λ z. IsRunOfMoves moves z y a) is run, refl, laws.itself a)
   exchanged s u a (l ∷ x) y i k differ parts (m, step, later) (own, of) (free, none) run of' none' =
       let other : part l.0 ≢ k = λ same. differ (sym own ∙ same) in
       let (t, run', still) = passed_on S L F moves laws part k l.0 l.1 other free s m a y (beside_of S L F moves part s m l.0 l.1 k parts step other) step run of' in
@@ -54,7 +54,7 @@ module _ (S L F : Type 0) (moves : Moves S L F) (laws : AreMoves moves) (part : 
       (b, d, run'', (v, over, rest'), laws.through d c b (laws.back c d alike') alike)
 
   -- ways of the other parts are ways after one part's
-  ways_after : (s u : S) (x : List (L × F)) (k : ℕ) (ways : ℕ → List (L × F)) (ks : List ℕ) → AreParts moves part s → Runs moves s x u → AreOf part k x → NoneEnds moves.Ends x → IsNoneOf k ks → HaveWays moves part s ways ks → HaveWays moves part u ways ks
+  ways_after : (s u : S) (x : List (L × F)) (k : ℕ) (ways : ℕ → List (L × F)) (ks : List ℕ) → ArePartsApart moves part s → IsRunOfMoves moves s x u → AreOfPart part k x → NoneEnds moves.Ends x → IsNoneOf k ks → HaveWays moves part s ways ks → HaveWays moves part u ways ks
   ways_after s u x k ways [] parts run of none alone have = tt
   ways_after s u x k ways (j ∷ ks) parts run of none (differ, alone) (alone', (a, run', of', none'), have) =
       let (b, c, after, rest, alike) = exchanged s u a x (ways j) k j (λ same. differ (sym same)) parts run of none run' of' none' in
@@ -67,27 +67,27 @@ module _ (S L F : Type 0) (moves : Moves S L F) (laws : AreMoves moves) (part : 
       let (b, run', near') = alike_runs S L F moves laws s t a (ways k) near run in
       (alone, (b, run', of, none), ways_alike s t ways ks near have)
 
-  way_of : (s : S) (ways : ℕ → List (L × F)) (ks : List ℕ) (k : ℕ) → IsOneOf k ks → HaveWays moves part s ways ks → IsWay moves part s k (ways k)
+  way_of : (s : S) (ways : ℕ → List (L × F)) (ks : List ℕ) (k : ℕ) → IsOneOf k ks → HaveWays moves part s ways ks → IsWayOfPart moves part s k (ways k)
   way_of s ways [] k one have = absurd one
-  way_of s ways (j ∷ ks) k (inl is) (alone, way, have) = subst (λ z. IsWay moves part s z (ways z)) is way
+  way_of s ways (j ∷ ks) k (inl is) (alone, way, have) = subst (λ z. IsWayOfPart moves part s z (ways z)) is way
   way_of s ways (j ∷ ks) k (inr one) (alone, way, have) = way_of s ways ks k one have
 
   -- who waits where ways of different parts lead, one after another
   abbrev Waiting : S → S → (ℕ → List (L × F)) → List ℕ → Type 0
   Waiting s t ways ks =
-      ((a : L) (u : S) → IsOneOf (part a) ks → Runs moves s (ways (part a)) u → moves.Waits u a ↔ moves.Waits t a)
+      ((a : L) (u : S) → IsOneOf (part a) ks → IsRunOfMoves moves s (ways (part a)) u → moves.Waits u a ↔ moves.Waits t a)
       × ((a : L) → IsNoneOf (part a) ks → moves.Waits s a ↔ moves.Waits t a)
 
   -- those of the first part
-  first_waits : (s u t v : S) (ways : ℕ → List (L × F)) (k : ℕ) (ks : List ℕ) (a : L) → k ≡ part a → IsNoneOf k ks → Runs moves s (ways k) u → Runs moves s (ways (part a)) v → Waiting u t ways ks → moves.Waits v a ↔ moves.Waits t a
+  first_waits : (s u t v : S) (ways : ℕ → List (L × F)) (k : ℕ) (ks : List ℕ) (a : L) → k ≡ part a → IsNoneOf k ks → IsRunOfMoves moves s (ways k) u → IsRunOfMoves moves s (ways (part a)) v → Waiting u t ways ks → moves.Waits v a ↔ moves.Waits t a
   first_waits s u t v ways k ks a is alone run run' waiting =
-      let again : Runs moves s (ways k) v = subst (λ z. Runs moves s (ways z) v) (sym is) run' in
+      let again : IsRunOfMoves moves s (ways k) v = subst (λ z. IsRunOfMoves moves s (ways z) v) (sym is) run' in
       both_sides (waits_both S L F moves laws v u a (runs_once S L F moves laws s v u (ways k) again run))
       (waiting.1 a (subst (λ z. IsNoneOf z ks) is alone))
 
   -- those of a later part
-  later_waits : (s u t v : S) (ways : ℕ → List (L × F)) (k : ℕ) (ks : List ℕ) (a : L) → AreParts moves part s → IsNoneOf k ks → IsOneOf (part a) ks → Runs moves s (ways k) u → AreOf part k (ways k) → NoneEnds moves.Ends (ways k) → HaveWays moves part s ways ks
-      → Runs moves s (ways (part a)) v → Waiting u t ways ks → moves.Waits v a ↔ moves.Waits t a
+  later_waits : (s u t v : S) (ways : ℕ → List (L × F)) (k : ℕ) (ks : List ℕ) (a : L) → ArePartsApart moves part s → IsNoneOf k ks → IsOneOf (part a) ks → IsRunOfMoves moves s (ways k) u → AreOfPart part k (ways k) → NoneEnds moves.Ends (ways k) → HaveWays moves part s ways ks
+      → IsRunOfMoves moves s (ways (part a)) v → Waiting u t ways ks → moves.Waits v a ↔ moves.Waits t a
   later_waits s u t v ways k ks a parts alone one run of none have run' waiting =
       let differ : k ≢ part a = not_both k (part a) ks alone one in
       let (v0, run0, of', none') = way_of s ways ks (part a) one have in
@@ -96,7 +96,7 @@ module _ (S L F : Type 0) (moves : Moves S L F) (laws : AreMoves moves) (part : 
       waits_past k v c (ways k) a (keeps k s u (ways k) parts run of) rest of (λ same. differ (sym same)) in
       both_sides past (both_sides (waits_both S L F moves laws c b a near) (waiting.0 a b one after))
 
-  together : (s : S) (ways : ℕ → List (L × F)) (ks : List ℕ) → AreParts moves part s → HaveWays moves part s ways ks → (t : S) × Runs moves s (all_ways ways ks) t × Waiting s t ways ks
+  together : (s : S) (ways : ℕ → List (L × F)) (ks : List ℕ) → ArePartsApart moves part s → HaveWays moves part s ways ks → (t : S) × IsRunOfMoves moves s (all_ways ways ks) t × Waiting s t ways ks
   together s ways [] parts have = (s, refl, (λ a u one run. absurd one, λ a none. (λ h. h, λ h. h)))
   together s ways (k ∷ ks) parts (alone, (u, run, of, none), have) =
       let (t, rest, waiting) = together u ways ks (parts_after S L F moves laws part s u (ways k) parts run none) (ways_after s u (ways k) k ways ks parts run of none alone have) in (
@@ -113,9 +113,9 @@ module _ (S L F : Type 0) (moves : Moves S L F) (laws : AreMoves moves) (part : 
         ),
       )
 
-  pub all_together : (s : S) (ways : ℕ → List (L × F)) (ks : List ℕ) → AreParts moves part s → HaveWays moves part s ways ks
-      → (t : S) × Runs moves s (all_ways ways ks) t
-      × ((a : L) (u : S) → IsOneOf (part a) ks → Runs moves s (ways (part a)) u → moves.Waits u a ↔ moves.Waits t a)
+  pub all_together : (s : S) (ways : ℕ → List (L × F)) (ks : List ℕ) → ArePartsApart moves part s → HaveWays moves part s ways ks
+      → (t : S) × IsRunOfMoves moves s (all_ways ways ks) t
+      × ((a : L) (u : S) → IsOneOf (part a) ks → IsRunOfMoves moves s (ways (part a)) u → moves.Waits u a ↔ moves.Waits t a)
       × ((a : L) → IsNoneOf (part a) ks → moves.Waits s a ↔ moves.Waits t a)
   all_together s ways ks parts have =
       let (t, run, waiting) = together s ways ks parts have in
@@ -123,11 +123,11 @@ module _ (S L F : Type 0) (moves : Moves S L F) (laws : AreMoves moves) (part : 
 
   -- the ends of two ways of each part are alike
   abbrev AlikeEnds : S → (ℕ → List (L × F)) → (ℕ → List (L × F)) → List ℕ → Type 0
-  AlikeEnds s ways others ks = (k : ℕ) (v w : S) → IsOneOf k ks → Runs moves s (ways k) v → Runs moves s (others k) w → moves.Alike v w
+  AlikeEnds s ways others ks = (k : ℕ) (v w : S) → IsOneOf k ks → IsRunOfMoves moves s (ways k) v → IsRunOfMoves moves s (others k) w → moves.Alike v w
 
   -- the ends of later parts are so after the first part's way
-  ends_after : (s u v w : S) (x y z : List (L × F)) (k j : ℕ) → k ≢ j → AreParts moves part s → Runs moves s x u → AreOf part k x → NoneEnds moves.Ends x → IsWay moves part s j y → IsWay moves part s j z
-      → ((a b : S) → Runs moves s y a → Runs moves s z b → moves.Alike a b) → Runs moves u y v → Runs moves u z w → moves.Alike v w
+  ends_after : (s u v w : S) (x y z : List (L × F)) (k j : ℕ) → k ≢ j → ArePartsApart moves part s → IsRunOfMoves moves s x u → AreOfPart part k x → NoneEnds moves.Ends x → IsWayOfPart moves part s j y → IsWayOfPart moves part s j z
+      → ((a b : S) → IsRunOfMoves moves s y a → IsRunOfMoves moves s z b → moves.Alike a b) → IsRunOfMoves moves u y v → IsRunOfMoves moves u z w → moves.Alike v w
   ends_after s u v w x y z k j differ parts run of none (a, run_y, of_y, none_y) (b, run_z, of_z, none_z) alike at_v at_w =
       let (c, d, after, rest, near) = exchanged s u a x y k j differ parts run of none run_y of_y none_y in
       let (c', d', after', rest', near') = exchanged s u b x z k j differ parts run of none run_z of_z none_z in
@@ -137,9 +137,9 @@ module _ (S L F : Type 0) (moves : Moves S L F) (laws : AreMoves moves) (part : 
       let last : moves.Alike d' w = laws.through d' c' w near' (runs_once S L F moves laws u c' w z after' at_w) in
       laws.through v d w first (laws.through d d' w same last)
 
-  pub stand_for : (s t u : S) (ways others : ℕ → List (L × F)) (ks : List ℕ) → AreParts moves part s → HaveWays moves part s ways ks → HaveWays moves part s others ks
-      → ((k : ℕ) (v w : S) → IsOneOf k ks → Runs moves s (ways k) v → Runs moves s (others k) w → moves.Alike v w)
-      → Runs moves s (all_ways ways ks) t → Runs moves s (all_ways others ks) u → moves.Alike t u
+  pub stand_for : (s t u : S) (ways others : ℕ → List (L × F)) (ks : List ℕ) → ArePartsApart moves part s → HaveWays moves part s ways ks → HaveWays moves part s others ks
+      → ((k : ℕ) (v w : S) → IsOneOf k ks → IsRunOfMoves moves s (ways k) v → IsRunOfMoves moves s (others k) w → moves.Alike v w)
+      → IsRunOfMoves moves s (all_ways ways ks) t → IsRunOfMoves moves s (all_ways others ks) u → moves.Alike t u
   stand_for s t u ways others [] parts have have' ends run run' = runs_once S L F moves laws s t u [] run run'
   stand_for s t u ways others (k ∷ ks) parts (alone, (v, way, of, none), have) (alone', (w, way', of', none'), have') ends run run' =
       let (m, first, rest) = runs_split S L F moves s t (ways k) (all_ways ways ks) run in

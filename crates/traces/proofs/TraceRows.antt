@@ -1,6 +1,6 @@
 -- Two systems: of two actors that count down, whose steps are apart; and of two that set one register, whose steps aren't.
 use Rattle.std.proofs.Common.{◌≡◌, ◌≢◌, ◌↔◌, ℕ, zero, suc, Bool, true, false, if◌then◌else◌, List, [], ◌∷◌, ◌++◌, Option, Some, None, inl, inr, refl, sym, ap, ◌∙◌, arith}
-use Rattle.traces.specs.Traces.{Moves, AreMoves, Runs, printed, AreParts}
+use Rattle.traces.specs.Traces.{Moves, AreMoves, IsRunOfMoves, printed_by_steps, ArePartsApart}
 use Rattle.traces.proofs.Projections.{projected}
 use Rattle.traces.proofs.Orders.{in_any_order}
 
@@ -96,7 +96,7 @@ abbrev side : Bool → ℕ
 side true = 0
 side false = 1
 
-pub counters_are_parts : (s : Counts) → AreParts counters side s
+pub counters_are_parts : (s : Counts) → ArePartsApart counters side s
 counters_are_parts s =
     record {
       apart = λ i j a b f g differ d e same. differ (sym d.belongs ∙ ap side (sym d.steps.0 ∙ same ∙ e.steps.0) ∙ e.belongs);
@@ -108,11 +108,11 @@ counters_are_parts s =
 abbrev pub turns : List (Bool × Bool)
 turns = (true, true) ∷ (false, false) ∷ (true, true) ∷ []
 
-pub they_run : Runs counters (2, 1) turns (0, 0)
+pub they_run : IsRunOfMoves counters (2, 1) turns (0, 0)
 they_run = ((1, 1), (refl, refl), ((1, 0), (refl, refl), ((0, 0), (refl, refl), refl)))
 
 -- the first counts down alone
-first_alone : (u : Counts) × Runs counters (2, 1) ((true, true) ∷ (true, true) ∷ []) u × ((a : Bool) → side a ≡ 0 → counters.Waits u a ↔ counters.Waits (0, 0) a)
+first_alone : (u : Counts) × IsRunOfMoves counters (2, 1) ((true, true) ∷ (true, true) ∷ []) u × ((a : Bool) → side a ≡ 0 → counters.Waits u a ↔ counters.Waits (0, 0) a)
 first_alone =
     projected counters side (2, 1) (0, 0) turns 0 counters_are_moves (counters_are_parts (2, 1)) they_run ((λ ends. ends), ((λ ends. ends), ((λ ends. ends), tt)))
 
@@ -120,10 +120,10 @@ first_alone =
 abbrev other_order : List (Bool × Bool)
 other_order = (false, false) ∷ (true, true) ∷ (true, true) ∷ []
 
-they_print : printed counters.prints other_order ≡ 65 ∷ 65 ∷ []
+they_print : printed_by_steps counters.prints other_order ≡ 65 ∷ 65 ∷ []
 they_print = refl
 
-second_first : (u : Counts) × Runs counters (2, 1) other_order u × (u ≡ (0, 0)) × (printed counters.prints other_order ≡ printed counters.prints turns)
+second_first : (u : Counts) × IsRunOfMoves counters (2, 1) other_order u × (u ≡ (0, 0)) × (printed_by_steps counters.prints other_order ≡ printed_by_steps counters.prints turns)
 second_first =
     let zero_one : 1 ≢ 0 = λ same. omega (arith, same) in
     in_any_order counters side (2, 1) (0, 0) turns (1 ∷ 0 ∷ []) counters_are_moves (counters_are_parts (2, 1)) they_run ((λ ends. ends), ((λ ends. ends), ((λ ends. ends), tt)))
@@ -159,10 +159,10 @@ different h =
     omega (arith, values)
 
 -- the two orders lead to two values
-one_then_two : Runs (setters (λ f g. ⊥)) (true, true, 0) ((true, true) ∷ (false, false) ∷ []) (false, false, 2)
+one_then_two : IsRunOfMoves (setters (λ f g. ⊥)) (true, true, 0) ((true, true) ∷ (false, false) ∷ []) (false, false, 2)
 one_then_two = ((false, true, 1), (refl, refl), ((false, false, 2), (refl, refl), refl))
 
-two_then_one : Runs (setters (λ f g. ⊥)) (true, true, 0) ((false, false) ∷ (true, true) ∷ []) (false, false, 1)
+two_then_one : IsRunOfMoves (setters (λ f g. ⊥)) (true, true, 0) ((false, false) ∷ (true, true) ∷ []) (false, false, 1)
 two_then_one = ((true, false, 2), (refl, refl), ((false, false, 1), (refl, refl), refl))
 
 pub true_false : true ≢ false
@@ -175,7 +175,7 @@ not_apart laws =
     different (some_same (false, false, 2) v first.1 ∙ same ∙ sym (some_same (false, false, 1) w second.1))
 
 -- and where they aren't, the two are no parts
-no_parts : AreParts (setters (λ f g. ⊥)) side (true, true, 0) → ⊥
+no_parts : ArePartsApart (setters (λ f g. ⊥)) side (true, true, 0) → ⊥
 no_parts parts =
     parts.apart 0 1 true false true false (λ same. omega (arith, same))
     record { before = []; there = (true, true, 0); after = (false, true, 1); way = refl; own = tt; belongs = refl; steps = (refl, refl) }

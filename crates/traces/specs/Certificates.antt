@@ -1,8 +1,8 @@
 -- Runs that stand for all runs from a state, which is told by their own steps.
 use Rattle.std.specs.Prelude.{◌≡◌, ◌≢◌, ◌⊎◌, Bool, true, List, [], ◌∷◌, ◌++◌}
 use Rattle.std.specs.List.{Contains}
-use Rattle.traces.specs.Traces.{Moves, AreMoves, Runs, printed, NoneEnds}
-use Rattle.traces.specs.StandsFor.{Found, StandsFor}
+use Rattle.traces.specs.Traces.{Moves, AreMoves, IsRunOfMoves, printed_by_steps, NoneEnds}
+use Rattle.traces.specs.StandsFor.{FoundOfSet, StandsFor}
 use Rattle.traces.specs.Restricted.{restricted}
 
 -- What certificates ask of the single steps of a system besides.
@@ -35,15 +35,15 @@ IsCertificate {S} {L} {F} moves s (x ∷ w) t =
 abbrev pub EachGoesOn : {S L F : Type 0} → Moves S L F → Type 0
 EachGoesOn {S} {L} {F} moves =
     (s t u : S) (v w : List (L × F)) → AreMoves moves → HaveSwaps moves → IsCertificate moves s v t → ((a : L) → moves.Waits t a → ⊥)
-    → Runs moves s w u
-    → (rest : List (L × F)) × (r : S) × Runs moves u rest r × moves.Alike r t × NoneEnds moves.Ends w × NoneEnds moves.Ends rest
-    × (printed moves.prints w ++ printed moves.prints rest ≡ printed moves.prints v)
+    → IsRunOfMoves moves s w u
+    → (rest : List (L × F)) × (r : S) × IsRunOfMoves moves u rest r × moves.Alike r t × NoneEnds moves.Ends w × NoneEnds moves.Ends rest
+    × (printed_by_steps moves.prints w ++ printed_by_steps moves.prints rest ≡ printed_by_steps moves.prints v)
 
 -- where nobody waits after a run either, it has led to a state that is alike, and has printed the same
 abbrev pub CertificateStandsForAll : {S L F : Type 0} → Moves S L F → Type 0
 CertificateStandsForAll {S} {L} {F} moves =
     (s t u : S) (v w : List (L × F)) → AreMoves moves → HaveSwaps moves → IsCertificate moves s v t → ((a : L) → moves.Waits t a → ⊥)
-    → Runs moves s w u → ((a : L) → moves.Waits u a → ⊥) → moves.Alike u t × (printed moves.prints w ≡ printed moves.prints v)
+    → IsRunOfMoves moves s w u → ((a : L) → moves.Waits u a → ⊥) → moves.Alike u t × (printed_by_steps moves.prints w ≡ printed_by_steps moves.prints v)
 
 -- a fact holds of the footprints of these steps
 abbrev pub HoldsOf : {L F : Type 0} → (F → Type 0) → List (L × F) → Type 0
@@ -53,7 +53,7 @@ HoldsOf Fact (x ∷ w) = Fact x.1 × HoldsOf Fact w
 -- A certificate of a set of actors, after which none of them waits, is all that has to be found.
 abbrev pub CertificateStandsFor : {S L F Y : Type 0} → Moves S L F → (F → Y → Type 0) → Type 0
 CertificateStandsFor {S} {L} {F} {Y} moves Within =
-    (among : L → Bool) (s t : S) (v : List (L × F)) (found : Found L F Y) → AreMoves moves → HaveSwaps moves
+    (among : L → Bool) (s t : S) (v : List (L × F)) (found : FoundOfSet L F Y) → AreMoves moves → HaveSwaps moves
     → IsCertificate (restricted moves among) s v t → ((a : L) → among a ≡ true → moves.Waits t a → ⊥)
     → HoldsOf (λ f. Within f found.summary × ((b : L) → moves.Gives f b → among b ≡ true)) v → Contains found.ways v
     → StandsFor moves Within among s found

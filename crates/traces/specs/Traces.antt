@@ -55,14 +55,14 @@ pub record AreMoves {S L F : Type 0} (moves : Moves S L F) : Type 0 where
   pub given : (s t : S) (a b : L) (f : F) → moves.Steps s a f t → moves.Waits t b → moves.Waits s b ⊎ moves.Gives f b
 
 -- A run: these steps, each an actor and a footprint, lead from one state to another.
-abbrev pub Runs : {S L F : Type 0} → Moves S L F → S → List (L × F) → S → Type 0
-Runs {S} {L} {F} moves s [] t = s ≡ t
-Runs {S} {L} {F} moves s (x ∷ w) t = (m : S) × moves.Steps s x.0 x.1 m × Runs moves m w t
+abbrev pub IsRunOfMoves : {S L F : Type 0} → Moves S L F → S → List (L × F) → S → Type 0
+IsRunOfMoves {S} {L} {F} moves s [] t = s ≡ t
+IsRunOfMoves {S} {L} {F} moves s (x ∷ w) t = (m : S) × moves.Steps s x.0 x.1 m × IsRunOfMoves moves m w t
 
 -- what steps print, each of which prints something by its footprint
-abbrev pub printed : {L F : Type 0} → (F → List ℕ) → List (L × F) → List ℕ
-printed prints [] = []
-printed prints (x ∷ w) = prints x.1 ++ printed prints w
+abbrev pub printed_by_steps : {L F : Type 0} → (F → List ℕ) → List (L × F) → List ℕ
+printed_by_steps prints [] = []
+printed_by_steps prints (x ∷ w) = prints x.1 ++ printed_by_steps prints w
 
 -- none of these steps has a footprint that ends the run
 abbrev pub NoneEnds : {L F : Type 0} → (F → Type 0) → List (L × F) → Type 0
@@ -75,8 +75,8 @@ AreAmong Has [] = Unit {0}
 AreAmong Has (x ∷ w) = Has x.0 × AreAmong Has w
 
 -- these steps are all of actors of one part
-abbrev pub AreOf : {L F : Type 0} → (L → ℕ) → ℕ → List (L × F) → Type 0
-AreOf part k w = AreAmong (λ a. part a ≡ k) w
+abbrev pub AreOfPart : {L F : Type 0} → (L → ℕ) → ℕ → List (L × F) → Type 0
+AreOfPart part k w = AreAmong (λ a. part a ≡ k) w
 
 -- the steps of one part among these
 abbrev pub of_part : {L F : Type 0} → (L → ℕ) → ℕ → List (L × F) → List (L × F)
@@ -112,39 +112,39 @@ AreOnceIn part ks [] = Unit {0}
 AreOnceIn part ks (x ∷ w) = IsOnceIn (part x.0) ks × AreOnceIn part ks w
 
 -- Alone from a state, a part comes to a step of this actor of its own, with this footprint.
-pub record Does {S L F : Type 0} (moves : Moves S L F) (part : L → ℕ) (s : S) (k : ℕ) (a : L) (f : F) : Type 0 where
+pub record PartDoes {S L F : Type 0} (moves : Moves S L F) (part : L → ℕ) (s : S) (k : ℕ) (a : L) (f : F) : Type 0 where
   -- the steps of the part before it
   pub before : List (L × F)
   -- where it is taken
   pub there : S
   -- where it leads
   pub after : S
-  pub way : Runs moves s before there
-  pub own : AreOf part k before
+  pub way : IsRunOfMoves moves s before there
+  pub own : AreOfPart part k before
   pub belongs : part a ≡ k
   pub steps : moves.Steps there a f after
 
 -- whoever is of a part, and waits after a run of it alone that hasn't ended, steps there
-abbrev pub GoesOn : {S L F : Type 0} → Moves S L F → (L → ℕ) → S → ℕ → Type 0
-GoesOn {S} {L} {F} moves part s k =
-    (w : List (L × F)) (t : S) (a : L) → Runs moves s w t → AreOf part k w → NoneEnds moves.Ends w → part a ≡ k → moves.Waits t a
+abbrev pub PartGoesOn : {S L F : Type 0} → Moves S L F → (L → ℕ) → S → ℕ → Type 0
+PartGoesOn {S} {L} {F} moves part s k =
+    (w : List (L × F)) (t : S) (a : L) → IsRunOfMoves moves s w t → AreOfPart part k w → NoneEnds moves.Ends w → part a ≡ k → moves.Waits t a
     → (f : F) × (u : S) × moves.Steps t a f u
 
 -- What each part does alone from a state is apart from what every other part does alone.
-pub record AreParts {S L F : Type 0} (moves : Moves S L F) (part : L → ℕ) (s : S) : Type 0 where
+pub record ArePartsApart {S L F : Type 0} (moves : Moves S L F) (part : L → ℕ) (s : S) : Type 0 where
   -- each step of one is apart from each step of another
   pub apart :
-      (i j : ℕ) (a b : L) (f g : F) → i ≢ j → Does moves part s i a f → Does moves part s j b g → moves.Apart f g
+      (i j : ℕ) (a b : L) (f g : F) → i ≢ j → PartDoes moves part s i a f → PartDoes moves part s j b g → moves.Apart f g
   -- each step gives events to actors of its own part alone
-  pub kept : (i : ℕ) (a b : L) (f : F) → Does moves part s i a f → moves.Gives f b → part b ≡ i
+  pub kept : (i : ℕ) (a b : L) (f : F) → PartDoes moves part s i a f → moves.Gives f b → part b ≡ i
   -- no turn is too long
-  pub goes_on : (i : ℕ) → GoesOn moves part s i
+  pub goes_on : (i : ℕ) → PartGoesOn moves part s i
 
 -- A way of a part: a run of it alone from a state that hasn't ended.
-abbrev pub IsWay : {S L F : Type 0} → Moves S L F → (L → ℕ) → S → ℕ → List (L × F) → Type 0
-IsWay {S} {L} {F} moves part s k w = (u : S) × Runs moves s w u × AreOf part k w × NoneEnds moves.Ends w
+abbrev pub IsWayOfPart : {S L F : Type 0} → Moves S L F → (L → ℕ) → S → ℕ → List (L × F) → Type 0
+IsWayOfPart {S} {L} {F} moves part s k w = (u : S) × IsRunOfMoves moves s w u × AreOfPart part k w × NoneEnds moves.Ends w
 
 -- parts that are all different have ways
 abbrev pub HaveWays : {S L F : Type 0} → Moves S L F → (L → ℕ) → S → (ℕ → List (L × F)) → List ℕ → Type 0
 HaveWays moves part s ways [] = Unit {0}
-HaveWays moves part s ways (k ∷ ks) = IsNoneOf k ks × IsWay moves part s k (ways k) × HaveWays moves part s ways ks
+HaveWays moves part s ways (k ∷ ks) = IsNoneOf k ks × IsWayOfPart moves part s k (ways k) × HaveWays moves part s ways ks

@@ -16,9 +16,8 @@ use model::entry::Entry;
 use std::sync::Wait;
 
 impl<'d, K: Naming> GateState<'d, K> {
-    /// Makes the first active update and appends it, where the run goes on, an update is active, and the journal isn't
-    /// full (11.4). A journal that is full stops the run. The seat may have been synchronized before, in this holding of the lock.
-    pub fn apply_update<R: Wait>(
+    /// The same as `apply_update`, with a seat that may have been synchronized before, in this holding of the lock.
+    fn update<R: Wait>(
         &mut self,
         context: &Context<'_, K, R>,
         seat: &mut Seat<K>,
@@ -51,6 +50,20 @@ impl<'d, K: Naming> GateState<'d, K> {
         }
     }
 
+    /// Makes the first active update and appends it, where the run goes on, an update is active, and the journal isn't
+    /// full (11.4). A journal that is full stops the run.
+    pub fn apply_update<R: Wait>(
+        &mut self,
+        context: &Context<'_, K, R>,
+        seat: &mut Seat<K>,
+    ) -> UpdateReply<K>
+        ensures state { UpdateAnswered K.named.code K.named.limits seat.old.worker self.old self.new result }
+        ensures seat { UpdateAnsweredTo K.named seat.old seat.new result }
+        ensures seen { seat.new.seen ≡ self.new.ledger }
+    {
+        self.update(context, seat, false)
+    }
+
     /// Makes the active updates in the order of their numbers, and appends each, up to the first one that makes evaluations
     /// active, as long as the run goes on, the journal isn't full and the list has room for one more grant. What the list
     /// held before is dropped.
@@ -69,7 +82,7 @@ impl<'d, K: Naming> GateState<'d, K> {
         grants.clear();
         let mut synchronized = false;
         while grants.len() < grants.capacity() {
-            match self.apply_update(context, seat, synchronized) {
+            match self.update(context, seat, synchronized) {
                 UpdateReply::Accepted(grant) => {
                     synchronized = true;
                     let is_quiet = grant.tickets.is_empty();

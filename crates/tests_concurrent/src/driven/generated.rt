@@ -28,11 +28,11 @@ const SOURCES: &[&str] = &[
 
 /// Numbers that a seed determines.
 #[derive(Drop)]
-struct Numbers {
+struct SeededNumbers {
     state: u64,
 }
 
-impl Numbers {
+impl SeededNumbers {
     // A number below a bound, which isn't 0.
     fn below(&mut self, bound: u64) -> u64
         requires { 0 < bound }
@@ -71,7 +71,7 @@ fn changed(entry: Entry, number: u64) -> Entry {
 }
 
 // The journal as it is, cut, with two of its entries exchanged, or with a number changed.
-fn altered(mut entries: Vec<Entry>, numbers: &mut Numbers) -> Vec<Entry> {
+fn altered(mut entries: Vec<Entry>, numbers: &mut SeededNumbers) -> Vec<Entry> {
     if entries.is_empty() {
         return entries;
     }
@@ -94,7 +94,7 @@ fn count_refused<R: Abort + Wait>(
     rt: &R,
     alloc: Global,
     source: &str,
-    numbers: &mut Numbers,
+    numbers: &mut SeededNumbers,
 ) -> u32 {
     let design = design_of(rt, alloc, source);
     let mut refused = 0u32;
@@ -110,7 +110,7 @@ fn count_refused<R: Abort + Wait>(
 
 #[test]
 fn a_journal_is_answered_as_its_replay(rt: HostRuntime) {
-    let mut numbers = Numbers { state: 2005 };
+    let mut numbers = SeededNumbers { state: 2005 };
     let mut refused = 0u32;
     for &source in SOURCES {
         let count = count_refused(&rt, rt.alloc(), source, &mut numbers);

@@ -268,7 +268,7 @@ impl Write for MarkedTarget<'_> {
 /// A command line with its source, the mark of its first byte on output, and its memory: so many pieces up to a mark, and a rest
 /// from there on.
 #[derive(Clone, Copy)]
-struct Asked<'a> {
+struct AskedCommand<'a> {
     line: &'a str,
     source: &'a str,
     first: u8,
@@ -278,8 +278,8 @@ struct Asked<'a> {
 }
 
 /// A command that reads FILE, and then has no memory.
-fn asking<'a>(line: &'a str, source: &'a str) -> Asked<'a> {
-    Asked {
+fn asking<'a>(line: &'a str, source: &'a str) -> AskedCommand<'a> {
+    AskedCommand {
         line,
         source,
         first: NEVER,
@@ -294,7 +294,7 @@ fn status_at<R: Abort + Threads + Wait + Sync>(
     rt: &R,
     alloc: Global,
     words: &[String],
-    asked: Asked<'_>,
+    asked: AskedCommand<'_>,
     places: &Places,
     marks: PassedMarks<'_>,
 ) -> u8 {
@@ -318,7 +318,7 @@ fn status_at<R: Abort + Threads + Wait + Sync>(
 fn status_with<R: Abort + Threads + Wait + Sync>(
     rt: &R,
     alloc: Global,
-    asked: Asked<'_>,
+    asked: AskedCommand<'_>,
     places: &Places,
 ) -> u8 {
     clear_all(places);
@@ -373,7 +373,7 @@ fn assert_passed(rt: &impl Abort, places: &Places, passed: &str, status: u8, wan
 fn assert_lost<R: Abort + Threads + Wait + Sync>(
     rt: &R,
     alloc: Global,
-    asked: Asked<'_>,
+    asked: AskedCommand<'_>,
     places: &Places,
     passed: &str,
     wanted: Expected<'_>,
@@ -386,7 +386,7 @@ fn assert_lost<R: Abort + Threads + Wait + Sync>(
 fn tells_what_memory_was_for(rt: HostRuntime) {
     let places = new_places(&rt, rt.alloc(), 256);
     for &(line, loss, passed, told) in LOSSES {
-        let asked = Asked {
+        let asked = AskedCommand {
             loss,
             ..asking(line, TWO_TURNS)
         };
@@ -398,7 +398,7 @@ fn tells_what_memory_was_for(rt: HostRuntime) {
 #[test]
 fn tells_that_no_worker_starts(rt: HostRuntime) {
     let places = new_places(&rt, rt.alloc(), 16);
-    let asked = Asked {
+    let asked = AskedCommand {
         pieces: 8,
         loss: NEVER,
         ..asking("vsimtx run t.v --workers 2", TWO_TURNS)
@@ -420,7 +420,7 @@ const NAMED: Expected<'static> = Expected {
 #[test]
 fn tells_races_before_the_search(rt: HostRuntime) {
     let places = new_places(&rt, rt.alloc(), 64);
-    let asked = Asked {
+    let asked = AskedCommand {
         first: b'o',
         pieces: 32,
         loss: b'o',
@@ -488,7 +488,7 @@ fn assert_refused(rt: &impl Abort, places: &Places, status: u8, line: &[u8]) {
 fn told_in_all<R: Abort + Threads + Wait + Sync>(
     rt: &R,
     alloc: Global,
-    asked: Asked<'_>,
+    asked: AskedCommand<'_>,
     places: &Places,
     shown: &[u8],
     wanted: &[(&str, &str)],
@@ -496,7 +496,7 @@ fn told_in_all<R: Abort + Threads + Wait + Sync>(
     let mut told = 0;
     for count in 0..RESTS {
         let rest = count.saturating_mul(STEP);
-        let status = status_with(rt, alloc, Asked { rest, ..asked }, places);
+        let status = status_with(rt, alloc, AskedCommand { rest, ..asked }, places);
         if status == 0 {
             return told;
         }
@@ -511,7 +511,7 @@ fn told_in_all<R: Abort + Threads + Wait + Sync>(
 fn assert_all_told<R: Abort + Threads + Wait + Sync>(
     rt: &R,
     alloc: Global,
-    asked: Asked<'_>,
+    asked: AskedCommand<'_>,
     shown: &str,
     wanted: &[(&str, &str)],
 ) {

@@ -140,10 +140,10 @@ const RUNS: &[(u32, u32)] = &[
 const STROBED_RUNS: &[(u32, u32)] = &[(1, 1_000), (4, 1_000), (16, 1_000)];
 
 /// A source, the two texts that it may print, or its only one twice, and its runs.
-type Raced<'a> = (&'a str, &'a str, &'a str, &'a [(u32, u32)]);
+type ThreadRace<'a> = (&'a str, &'a str, &'a str, &'a [(u32, u32)]);
 
 /// Sources that race.
-const RACES: &[Raced<'static>] = &[
+const RACES: &[ThreadRace<'static>] = &[
     // copies race as whole turns
     (COPIES, "1 1\n", "0 0\n", RUNS),
     // waiters wake in either order
@@ -151,7 +151,7 @@ const RACES: &[Raced<'static>] = &[
 ];
 
 /// Sources whose runs stop, and one that has one outcome.
-const STOPS: &[Raced<'static>] = &[
+const STOPS: &[ThreadRace<'static>] = &[
     // a finished run ends on every worker
     (FINISHES, "a\n", "c\na\n", RUNS),
     // a clock stops at its limit on every worker
@@ -161,7 +161,7 @@ const STOPS: &[Raced<'static>] = &[
 ];
 
 /// Sources with strobes.
-const STROBES: &[Raced<'static>] = &[
+const STROBES: &[ThreadRace<'static>] = &[
     // strobes of one time come in the order of the turns
     (
         "module t; reg a; initial begin a=1'b0; $strobe(\"p %b\",a); a<=1'b1; end initial $strobe(\"q %b\",a); endmodule",
@@ -179,7 +179,11 @@ const STROBES: &[Raced<'static>] = &[
 ];
 
 /// The runs of some sources.
-fn assert_sources<R: Abort + Threads + Wait + Sync>(rt: &R, alloc: Global, sources: &[Raced<'_>]) {
+fn assert_sources<R: Abort + Threads + Wait + Sync>(
+    rt: &R,
+    alloc: Global,
+    sources: &[ThreadRace<'_>],
+) {
     for &(source, one, other, runs_on) in sources {
         assert_source(rt, alloc, source, either(one, other), runs_on);
     }

@@ -15,7 +15,7 @@ use std::alloc::Global;
 use std::process::Abort;
 
 /// How much more memory a search gets each time, and how often at most.
-const STEP: usize = 96;
+const STEP: usize = 256;
 
 const ROOMS: usize = 1024;
 
@@ -56,7 +56,7 @@ const PLAIN: Row<'static> = Row {
     endless: false,
 };
 
-/// Two such races, one after another: the first texts are shown before the search has come to most of its memory.
+/// Two such races, one after another.
 const RACES: Row<'static> = Row {
     source: b"module t; reg a, b; initial a=1'b0; initial a=1'b1; initial #1 $display(\"%b\",a); initial #2 b=1'b0; initial #2 b=1'b1; initial #3 $display(\"%b\",b); endmodule",
     texts: &["0\n0\n", "0\n1\n", "1\n0\n", "1\n1\n"],
@@ -64,9 +64,19 @@ const RACES: Row<'static> = Row {
     ..PLAIN
 };
 
+/// A race after which the run has finished or goes on, with four processes behind it that give one register a value: the text of the first
+/// is shown before the search has come to most of its memory.
+const FINISHED_OR_NOT: Row<'static> = Row {
+    source: b"module t; reg c; reg [1:0] a; initial #1 c=1'b1; initial #1 if (c) begin $finish; end initial #2 a=2'd0; initial #2 a=2'd1; initial #2 a=2'd2; initial #2 a=2'd3; initial #3 $display(\"%0d\",a); endmodule",
+    texts: &["", "0\n", "1\n", "2\n", "3\n"],
+    shown: 5,
+    ..PLAIN
+};
+
 const ROWS: &[Row<'static>] = &[
     PLAIN,
     RACES,
+    FINISHED_OR_NOT,
     // two processes at one clock that take each other's value: no order of theirs shows
     Row {
         source: b"module t; reg clk; reg [7:0] q0, q1; initial #1 clk=1'b0; always #5 clk=~clk; initial q0=8'd1; initial q1=8'd2; always @(posedge clk) q0<=q0+q1; always @(posedge clk) q1<=q1+q0; always @(negedge clk) $display(\"%0d %0d\",q0,q1); endmodule",
@@ -276,8 +286,8 @@ fn texts_of_lawful_orders_are_shown(rt: HostRuntime) {
 fn found_in(rt: &impl Abort, memory: &mut Scarce, design: &Design) -> (usize, &'static str) {
     memory.leave(rt);
     memory.open(rt);
-    let found = found_of(rt, memory.alloc, design, &RACES);
-    assert_texts(rt, &found.shown, RACES.texts);
+    let found = found_of(rt, memory.alloc, design, &FINISHED_OR_NOT);
+    assert_texts(rt, &found.shown, FINISHED_OR_NOT.texts);
     (found.shown.len(), reason_of(&found))
 }
 
@@ -290,7 +300,7 @@ fn assert_refused(rt: &impl Abort, alloc: Global, design: &Design) {
         let (shown, reason) = found_in(rt, &mut memory, design);
         if reason == "" {
             holds(rt, most > 0, "no text in too little memory");
-            assert_length(rt, shown, RACES.shown);
+            assert_length(rt, shown, FINISHED_OR_NOT.shown);
             return;
         }
         holds(rt, reason == "memory", "another reason");
@@ -301,6 +311,6 @@ fn assert_refused(rt: &impl Abort, alloc: Global, design: &Design) {
 
 #[test]
 fn what_was_found_is_shown_where_memory_is_refused(rt: HostRuntime) {
-    let design = design_of(&rt, rt.alloc(), RACES.source);
+    let design = design_of(&rt, rt.alloc(), FINISHED_OR_NOT.source);
     assert_refused(&rt, rt.alloc(), &design);
 }

@@ -4,7 +4,7 @@ use Rattle.std.proofs.lemmas.List.{take_all, take_more}
 use Rattle.clap.specs.Words.{new_app}
 use Rattle.arguments.specs.declared.parameters.Parameter.{Parameter}
 use Rattle.arguments.specs.Arguments.{HasRules, parameters_of, rule_for}
-use Rattle.arguments.specs.CommandWords.{with_arguments, word_of}
+use Rattle.arguments.specs.CommandWords.{with_arguments, word_of_task}
 use Rattle.arguments.proofs.TaskLemmas.{argument_more, task_app}
 use Rattle.arguments.proofs.commands.command.Goals as goal
 
@@ -28,4 +28,4 @@ pub returns-clause-app : goal.returns-clause-app
 returns-clause-app c =
     let all : take c.loop-parameter.parameter-index c.parameters-taken.result.now ≡ parameters_of c.args.task =
     take_all c.loop-parameter.parameter-index c.parameters-taken.result.now c.loop-parameter-test.false ∙ c.parameters-taken.ensures in
-    c.loop-parameter.invariant.1 ∙ (ap (with_arguments (new_app (word_of c.args.task))) all ∙ task_app c.args.task)
+    c.loop-parameter.invariant.1 ∙ (ap (with_arguments (new_app (word_of_task c.args.task))) all ∙ task_app c.args.task)

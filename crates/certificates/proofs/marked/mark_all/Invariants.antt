@@ -4,5 +4,5 @@ use Rattle.std.specs.List.{list_any}
 use Rattle.certificates.specs.Marks.{is_marked}
 use Rattle.certificates.proofs.marked.mark_all.Given as goal
 
-abbrev pub invariant-loop-number : goal.invariant-loop-number
-invariant-loop-number l = (n : ℕ) → is_marked l.marks.items n ≡ (is_marked l.fn.marks.items n || list_any (λ x. x == n) (take l.number-index l.numbers))
+abbrev pub invariant-loop-item : goal.invariant-loop-item
+invariant-loop-item g l = (n : ℕ) → is_marked l.marks.items n ≡ (is_marked l.fn.marks.items n || list_any (λ x. g.T.Numbered.number_of x == n) (take l.item-index l.items))

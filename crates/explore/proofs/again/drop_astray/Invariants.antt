@@ -1,4 +1,4 @@
-use Rattle.explore.specs.Grown.{Extends}
+use Rattle.sharing.specs.Parts.{Extends}
 use Rattle.explore.proofs.again.drop_astray.Given as goal
 
 abbrev pub invariant-loop : goal.invariant-loop

@@ -1,5 +1,6 @@
 use Rattle.std.proofs.Common.{◌≡◌, ℕ, List, [], ◌∷◌, ◌++◌, get_or, length, Bool, true, refl, sym, ap, ◌∙◌, subst, arith}
-use Rattle.explore.specs.Grown.{Extends, grown}
+use Rattle.sharing.specs.Parts.{Extends}
+use Rattle.explore.specs.Grown.{grown}
 use Rattle.explore.specs.Links.{IsUnmarked}
 use Rattle.explore.specs.NumberedTexts.{texts}
 use Rattle.explore.specs.Lineage.{ways}

@@ -1,5 +1,5 @@
 use Rattle.std.proofs.Common.{◌≡◌, ℕ, List, [], ◌++◌, length, get_or, arith, sym, subst, inl, inr}
-use Rattle.explore.specs.Grown.{Extends}
+use Rattle.sharing.specs.Parts.{Extends}
 use Rattle.explore.specs.Lineage.{ways}
 use Rattle.explore.specs.Pieces.{pieces}
 use Rattle.explore.specs.SearchKept.{IsContinued}

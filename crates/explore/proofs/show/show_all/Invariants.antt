@@ -1,7 +1,7 @@
 use Rattle.std.proofs.Common.{◌≡◌, ◌≤◌, ◌++◌, [], List, length, get_or}
 use Rattle.std.specs.List.{All, AllPairs}
 use Rattle.explore.specs.declared.EndedPath.{EndedPath}
-use Rattle.explore.specs.Grown.{Extends}
+use Rattle.sharing.specs.Parts.{Extends}
 use Rattle.explore.specs.Search.{IsOfRun, IsEndedPath, AreDistinct, IsShown}
 use Rattle.explore.specs.Lineage.{ways}
 use Rattle.explore.proofs.show.show_all.Given as goal

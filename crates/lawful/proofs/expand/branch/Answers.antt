@@ -8,11 +8,17 @@ use Rattle.regions.specs.Machine.{MachineView, state_at}
 use Rattle.lawful.proofs.Ways.{all_followed}
 use Rattle.lawful.proofs.expand.branch.Goals as goal
 
-pub returns-clause-all : goal.returns-clause-all
-returns-clause-all c = λ whole.
+pub returns : goal.returns
+returns c =
     let m = c.args.machine.value in
     let class = class_in c.args.classes.now in
-    all_followed class m.code c.args.limits (state_at m) c.deref-3.result.now c.in_ok-successors.field-0.successors.items c.in_ok-successors.field-0.ended.items c.requires.order c.requires.goes_on
-    (λ transition can. subst (λ (l : List LooseTransition). Contains l transition) (sym c.deref-3.ensures.value)
-    ((c.in_ok-transitions.ensures.permitted transition).1 (subst (λ (p : MachineView). MayBeTaken class (state_at p) transition) (sym c.deref-2.ensures) can)))
-    c.in_ok-successors.ensures
+    let ways = c.in_ok-successors.ensures in
+    record {
+      nexts = ways.nexts;
+      ends = ways.ends;
+      all = λ whole.
+          all_followed class m.code c.args.limits (state_at m) c.deref-3.result.now c.in_ok-successors.field-0.successors.items c.in_ok-successors.field-0.ended.items c.requires.order c.requires.goes_on
+          (λ transition can. subst (λ (l : List LooseTransition). Contains l transition) (sym c.deref-3.ensures.value)
+          ((c.in_ok-transitions.ensures.permitted transition).1 (subst (λ (p : MachineView). MayBeTaken class (state_at p) transition) (sym c.deref-2.ensures) can)))
+          ways;
+    }

@@ -8,7 +8,7 @@ use Rattle.model.specs.declared.entry.Entry.{Entry}
 use Rattle.model.specs.declared.end.End.{End}
 use Rattle.explore.specs.declared.Shown.{Shown}
 use Rattle.loose.specs.declared.transition.LooseTransition.{LooseTransition}
-use Rattle.lawful.specs.Journals.{texts_and_ends, HasJournal, IsShownLawfully}
+use Rattle.lawful.specs.Journals.{texts_and_ends, HasLawfulJournal, IsShownLawfully}
 use Rattle.lawful.proofs.ShownLawfully.{one_more}
 use Rattle.lawful.proofs.journals.with_journals.Goals as goal
 
@@ -26,5 +26,5 @@ loop-loosely-preserved c =
     let more = c.in_ok-push-in-Some-2.ensures.items in
     record {
       same = subst (λ (l : List (Shown Entry End)). texts_and_ends l ++ texts_and_ends rest ≡ all) (sym more) (one_more all loosely rest lawful one told.text told.end_is before);
-      journals = subst (All (HasJournal code limits)) (sym more) (All-push (HasJournal code limits) lawful one c.loop-loosely.invariant.journals told.journal);
+      journals = subst (All (HasLawfulJournal code limits)) (sym more) (All-push (HasLawfulJournal code limits) lawful one c.loop-loosely.invariant.journals told.journal);
     }

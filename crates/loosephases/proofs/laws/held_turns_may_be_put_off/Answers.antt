@@ -5,6 +5,9 @@ use Rattle.loosephases.proofs.laws.held_turns_may_be_put_off.Goals as goal
 pub returns-clause-node : goal.returns-clause-node
 returns-clause-node c = runs.held_is_put_off
 
+pub returns-clause-stays : goal.returns-clause-stays
+returns-clause-stays c = runs.held_stays_held
+
 pub returns-clause-phase : goal.returns-clause-phase
 returns-clause-phase c = runs.phase_is_held
 

@@ -9,7 +9,7 @@ pub returns-clause-state : goal.returns-clause-state
 returns-clause-state g c = covering.covering_moves_cover
 
 pub returns-clause-covering : goal.returns-clause-covering
-returns-clause-covering g c = covering.covering_loose_is_covered g.N.Nodes.holds
+returns-clause-covering g c = covering.covering_loose_is_covered g.N.AnyNodes.holds
 
 pub returns-clause-following : goal.returns-clause-following
-returns-clause-following g c = covering.following_loose_is_covered g.N.Nodes.holds
+returns-clause-following g c = covering.following_loose_is_covered g.N.AnyNodes.holds

@@ -12,7 +12,7 @@ pub returns-clause-ways : goal.returns-clause-ways
 returns-clause-ways g c = going.loose_ways_go_on
 
 pub returns-clause-next : goal.returns-clause-next
-returns-clause-next g c = going.moves_lead_to_next g.N.Nodes.holds
+returns-clause-next g c = going.moves_lead_to_next g.N.AnyNodes.holds
 
 pub returns-clause-ended : goal.returns-clause-ended
-returns-clause-ended g c = going.moves_lead_to_end g.N.Nodes.holds
+returns-clause-ended g c = going.moves_lead_to_end g.N.AnyNodes.holds

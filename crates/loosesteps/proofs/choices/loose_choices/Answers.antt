@@ -5,7 +5,7 @@ use Rattle.loose.specs.declared.transition.LooseTransition.{LooseTransition}
 use Rattle.regions.specs.Queue.{Core, update_event, evaluation_event}
 use Rattle.regions.specs.Machine.{state_at}
 use Rattle.loose.specs.Classes.{class_in}
-use Rattle.loosesteps.specs.Choices.{AreGathered, first_of}
+use Rattle.loosesteps.specs.Choices.{AreGathered, update_transition}
 use Rattle.loosesteps.specs.LooselyTaken.{MayBeTaken}
 use Rattle.loosesteps.proofs.ChoiceLaws.{AreChoices, choices_gathered, choices_permitted, choices_once}
 use Rattle.loosesteps.proofs.choices.loose_choices.Goals.{In_ok-add_change}
@@ -15,8 +15,8 @@ choices : (c : In_ok-add_change) → AreChoices (class_in c.args.classes.now) c.
 choices c =
     let class = class_in c.args.classes.now in
     let us = c.active.result.0.now.items in
-    let first : AreGathered [] (map (first_of class) us) c.add_updates.new.choices.items =
-    subst (λ (old : List LooseTransition). AreGathered old (map (first_of class) us) c.add_updates.new.choices.items) c.new-choices.ensures.items c.in_ok-add_updates.ensures in
+    let first : AreGathered [] (map (update_transition class) us) c.add_updates.new.choices.items =
+    subst (λ (old : List LooseTransition). AreGathered old (map (update_transition class) us) c.add_updates.new.choices.items) c.new-choices.ensures.items c.in_ok-add_updates.ensures in
     choices_gathered class us c.active.result.1.now.items c.add_updates.new.choices.items c.add_evaluations.new.choices.items first c.in_ok-add_evaluations.ensures
 
 pub returns-clause-permitted : goal.returns-clause-permitted

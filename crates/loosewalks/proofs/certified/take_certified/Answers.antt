@@ -12,7 +12,6 @@ pub loop-init : goal.loop-init
 loop-init c =
     record {
       code = refl;
-      moves = refl;
       noted = λ limits. noted_none (class_in c.args.classes.now) limits c.args.machine.now c.clear-2.new.self c.clear.new.self.items c.clear-2.ensures c.clear.ensures.items;
     }
 
@@ -25,7 +24,6 @@ loop-preserved c =
     let event = subst (λ (o : Option NamedEntry). IfSome o (IsEventStep class (state_at mid))) c.in-Some.is c.first_active.ensures.event in
     record {
       code = c.take_certified_one.ensures.code ∙ c.loop.invariant.code;
-      moves = c.take_certified_one.ensures.moves ∙ c.loop.invariant.moves;
       noted = λ limits.
           noted_more class limits c.args.machine.now mid c.take_certified_one.new.machine room.certificate new.certificate room.way.items new.way.items c.in-Some.named (c.loop.invariant.noted limits) c.loop.invariant.code event
           (c.in_ok-take_certified_one.ensures.added c.if-not-branch.false);

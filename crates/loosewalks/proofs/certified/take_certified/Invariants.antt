@@ -8,6 +8,5 @@ use Rattle.loosewalks.proofs.certified.take_certified.Given as goal
 abbrev pub invariant-loop : goal.invariant-loop
 invariant-loop l = record {
   code : l.machine.code ≡ l.fn.machine.code;
-  moves : l.room.moves ≡ l.fn.room.moves;
   noted : (limits : Limits) → TakesNoted (class_in l.classes) limits l.fn.machine l.room.certificate l.room.way.items l.machine;
 }

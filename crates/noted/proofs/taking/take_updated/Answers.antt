@@ -1,5 +1,6 @@
 -- The note is that of the update's footprint.
 use Rattle.std.proofs.Common.{refl}
+use Rattle.model.specs.Turns.{contains}
 use Rattle.loose.specs.Classes.{class_in}
 use Rattle.regions.specs.Machine.{state_at}
 use Rattle.noted.proofs.Noted.{update_noted, update_steps}
@@ -16,7 +17,7 @@ returns-in-Ok-take c =
     let took = c.in-Ok-take.ensures in
     record {
       taken = took.taken;
-      noted = update_noted (class_in c.args.classes.now) m.code (state_at m) c.args.number c.args.updated.0 c.args.updated.1 c.note_update.new.note c.requires.action c.in-Ok.ensures;
+      noted = update_noted (class_in c.args.classes.now) m.code (contains c.args.held.now) (state_at m) c.args.number c.args.updated.0 c.args.updated.1 c.note_update.new.note c.requires.action c.in-Ok.ensures;
       entries = took.entries;
       made = took.made;
       code = c.take.ensures.code;

@@ -13,7 +13,7 @@ loop-member-preserved c =
     let i = c.loop-member.member-index in
     let within : i < length members = omega arith in
     upto_more (IsMember m.code (state_at m) c.args.network.now) members i c.loop-member.invariant
-    (λ d. subst (IsMember m.code (state_at m) c.args.network.now) (get_or_default members i 0 d within) (c.in_ok-is_member.ensures c.if-not-branch.false))
+    (λ d. subst (IsMember m.code (state_at m) c.args.network.now) (get_or_default members i 0 d within) (c.is_member.ensures c.if-not-is_member.false))
 
 pub returns : goal.returns
 returns c = λ on p there.

@@ -1,14 +1,11 @@
--- The mask has the bit of the new change's register too.
-use Rattle.std.proofs.Common.{map, ◌∙◌, ap, sym, subst}
-use Rattle.footprints.specs.Footprints.{changed}
-use Rattle.certificates.specs.Changes.{change_of}
-use Rattle.certificates.specs.Masks.{IsMasked}
-use Rattle.certificates.proofs.Masks.{changed_more}
+-- The list has one change more, where there is room for it.
+use Rattle.std.proofs.Common.{map, if◌then◌else◌, [], ◌∷◌, ◌++◌, ◌∙◌, ap}
+use Rattle.std.specs.Prelude.{is_ok}
+use Rattle.certificates.specs.Changes.{register_change_of}
+use Rattle.certificates.proofs.Masks.{changes_pushed}
 use Rattle.certificates.proofs.changes.Changes.push.Goals as goal
 
-pub invariant_of-self-2 : goal.invariant_of-self-2
-invariant_of-self-2 c =
-    let cs = c.self.inside.items.items in
-    subst (λ rs. IsMasked rs c.insert.new.self)
-    (sym (ap (λ ds. changed (map change_of ds)) c.in_ok-push.ensures.items ∙ changed_more cs c.args.change))
-    (c.insert.ensures (changed (map change_of cs)) c.self.invariant)
+pub returns : goal.returns
+returns c =
+    ap (map register_change_of) c.push.ensures ∙ changes_pushed (is_ok c.push.result) c.self.inside.list c.args.change
+    ∙ ap (λ cs. if is_ok c.push.result then cs ++ register_change_of c.args.change ∷ [] else cs) c.self.view_is

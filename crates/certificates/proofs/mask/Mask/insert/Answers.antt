@@ -3,4 +3,4 @@ use Rattle.certificates.proofs.Masks.{masked_more}
 use Rattle.certificates.proofs.mask.Mask.insert.Goals as goal
 
 pub returns : goal.returns
-returns c = λ numbers masked. masked_more numbers c.args.self.now c.args.number c.bit_of.result c.bit_of.ensures masked
+returns c = λ has masked. masked_more has c.args.self.now c.args.number c.bit_of.result c.bit_of.ensures masked

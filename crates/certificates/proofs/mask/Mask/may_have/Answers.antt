@@ -3,4 +3,4 @@ use Rattle.certificates.proofs.Masks.{not_masked}
 use Rattle.certificates.proofs.mask.Mask.may_have.Goals as goal
 
 pub returns : goal.returns
-returns c = λ numbers masked none. not_masked numbers c.args.self c.args.number c.bit_of.result c.bit_of.ensures masked none
+returns c = λ has masked none. not_masked has c.args.self c.args.number c.bit_of.result c.bit_of.ensures masked none

@@ -1,6 +1,6 @@
--- Lists whose masks have no bit in common have no number in common.
+-- Of numbers whose masks have no bit in common none is among both.
 use Rattle.certificates.proofs.Masks.{masks_apart}
 use Rattle.certificates.proofs.mask.Mask.may_meet.Goals as goal
 
 pub returns : goal.returns
-returns c = λ numbers others masked masked' none. masks_apart numbers others c.args.self c.args.other masked masked' none
+returns c = λ has among masked masked' none n there. masks_apart has among c.args.self c.args.other masked masked' none n there

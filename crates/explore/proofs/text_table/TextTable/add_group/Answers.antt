@@ -1,7 +1,7 @@
 -- A text more, or one that was there.
 use Rattle.std.proofs.Common.{◌<◌, ◌++◌, [], ℕ, List, length, get_or, ap, sym, subst, ◌∙◌}
 use Rattle.std.proofs.lemmas.Option.{slice_get_within, get_or_from_slice_get}
-use Rattle.explore.specs.Grown.{Extends}
+use Rattle.sharing.specs.Parts.{Extends}
 use Rattle.explore.specs.NumberedTexts.{line_groups, AreTextEdges}
 use Rattle.explore.specs.declared.text_table.TextEdge.{TextEdge}
 use Rattle.explore.proofs.TextEdges.{told, told_within, told_equal, told-extends, told-groups, AreTextEdges-more, AreTextEdges-groups}

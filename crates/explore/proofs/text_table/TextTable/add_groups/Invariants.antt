@@ -1,6 +1,6 @@
 -- The groups so far are numbered, and what is left goes behind them.
 use Rattle.std.proofs.Common.{◌≡◌, ◌<◌, ◌++◌, [], length, get_or}
-use Rattle.explore.specs.Grown.{Extends}
+use Rattle.sharing.specs.Parts.{Extends}
 use Rattle.explore.specs.NumberedTexts.{texts, IsTexts}
 use Rattle.explore.proofs.text_table.TextTable.add_groups.Given as goal
 

@@ -28,7 +28,7 @@ returns-clause-next c run stands =
     let o = c.args.self.now in
     let m = c.args.node.machine.value in
     let xs = c.in_ok-expanded.expanded.successors.items in
-    let on = subst (λ (cs : List ℕ). All (IsLooseWayOn (class_in cs) m.code o.limits (state_at m)) xs) c.deref.ensures.value c.in_ok-expanded.ensures.next in
+    let on = subst (λ (cs : List ℕ). All (IsLooseWayOn (class_in cs) m.code o.limits (state_at m)) xs) c.deref.ensures.value c.in_ok-expanded.ensures.nexts in
     node_next (class_in o.classes.items) o.analyzed_design o.limits c.args.node run xs stands on
 
 pub returns-clause-sound : goal.returns-clause-sound
@@ -36,7 +36,7 @@ returns-clause-sound c run stands =
     let o = c.args.self.now in
     let m = c.args.node.machine.value in
     let xs = c.in_ok-expanded.expanded.ended.items in
-    let to = subst (λ (cs : List ℕ). All (IsLooseWayToEnd (class_in cs) m.code o.limits (state_at m)) xs) c.deref.ensures.value c.in_ok-expanded.ensures.sound in
+    let to = subst (λ (cs : List ℕ). All (IsLooseWayToEnd (class_in cs) m.code o.limits (state_at m)) xs) c.deref.ensures.value c.in_ok-expanded.ensures.ends in
     node_ended (class_in o.classes.items) o.analyzed_design o.limits c.args.node run xs stands to
 
 pub returns-clause-cover : goal.returns-clause-cover

@@ -1,0 +1,2 @@
+pub mod WithoutHeld
+pub mod HeldMoves

@@ -1,0 +1,10 @@
+pub mod Lists
+pub mod AlikeStarts
+pub mod TwoParts
+pub mod Notes
+pub mod Following
+pub mod Covering
+pub mod ActorSteps
+pub mod Groups
+pub mod Waiters
+pub mod EndingCover

@@ -1,0 +1,165 @@
+//! Actors who wait, and the step of one.
+ghost use Rattle.std.specs.Prelude.{◌≡◌, ◌⊎◌, false, true, IfOk, OnOk};
+ghost use Rattle.std.specs.List.{All, Contains};
+ghost use Rattle.orders.specs.Alike.{IsInOrder};
+ghost use Rattle.loose.specs.Classes.{class_in};
+ghost use Rattle.regions.specs.Machine.{state_at};
+ghost use Rattle.footprints.specs.Moves.{IsWaiting};
+ghost use Rattle.loose.specs.declared.transition.LooseTransition.{LooseTransition as Actor};
+ghost use Rattle.certificates.specs.Coming.{is_same, wakes_actor};
+ghost use Rattle.looseparts.specs.StandTogether.{concern};
+ghost use Rattle.looseparts.specs.ActorSteps.{IsActorStep};
+
+use certificates::note::StepNote;
+use loose::transition::LooseTransition;
+use loosesteps::{entry_for, loose_choices};
+use noted::{NotedFault, take_noted};
+use regions::{Machine, TakeFault};
+use std::alloc::{AllocError, Global};
+use turn::TurnLog;
+
+// Whether these are the same actor.
+fn are_same(one: LooseTransition, other: LooseTransition) -> bool
+    ensures { result ≡ is_same one other }
+{
+    match (one, other) {
+        (LooseTransition::Process(p), LooseTransition::Process(q)) => p == q,
+        (LooseTransition::FirstOf(c), LooseTransition::FirstOf(d)) => c == d,
+        _ => false,
+    }
+}
+
+// Whether a step wakes an actor, by its note.
+fn is_woken(note: &StepNote, actor: LooseTransition) -> bool
+    ensures { result ≡ wakes_actor note.now actor }
+{
+    match actor {
+        LooseTransition::Process(process) => note.woken.contains(process),
+        _ => false,
+    }
+}
+
+/// Whether one of these notes is of an actor, or says that he is woken.
+pub(crate) fn do_concern(notes: &[StepNote], actor: LooseTransition) -> bool
+    ensures { result ≡ concern notes.now actor }
+{
+    notes.iter().any(|note| are_same(note.owner, actor) || is_woken(note, actor))
+}
+
+/// Whether these notes concern each of some actors.
+pub(crate) fn do_concern_all(notes: &[StepNote], group: &[LooseTransition]) -> bool
+    ensures { result ≡ true → All (λ a. concern notes.now a ≡ true) group.now }
+{
+    for actor in group {
+        if !do_concern(notes, *actor) {
+            return false;
+        }
+    }
+    true
+}
+
+// Adds an actor, where he is one of a group, or was woken by a step.
+fn add_wanted(
+    next: &mut Vec<LooseTransition>,
+    group: &[LooseTransition],
+    note: &StepNote,
+    actor: LooseTransition,
+) -> Result<(), AllocError>
+    ensures wanted { OnOk result (Contains group.now actor ⊎ (wakes_actor note.now actor ≡ true) → Contains next.new.items actor) }
+    ensures kept { OnOk result ((a : Actor) → Contains next.old.items a → Contains next.new.items a) }
+{
+    if group.contains(&actor) {
+        next.push(actor)?;
+        return Ok(());
+    }
+    if is_woken(note, actor) {
+        next.push(actor)?;
+    }
+    Ok(())
+}
+
+// Whether notes concern an actor who is none of a group.
+fn is_left_out(group: &[LooseTransition], notes: &[StepNote], actor: LooseTransition) -> bool
+    ensures { result ≡ false → concern notes.now actor ≡ true → Contains group.now actor }
+{
+    if group.contains(&actor) {
+        return false;
+    }
+    do_concern(notes, actor)
+}
+
+/// The actors who wait of a group, and of those whom a step woke.
+pub(crate) fn waiting_of(
+    alloc: Global,
+    machine: &Machine<'_>,
+    classes: &[u32],
+    group: &[LooseTransition],
+    note: &StepNote,
+) -> Result<Vec<LooseTransition>, AllocError>
+    requires order { IsInOrder (state_at machine.now) }
+    requires going { machine.now.core.finished ≡ false }
+    ensures { IfOk result (λ next. (a : Actor) → IsWaiting (class_in classes.now) (state_at machine.now) a → Contains group.now a ⊎ (wakes_actor note.now a ≡ true) → Contains next.items a) }
+{
+    let choices = loose_choices(alloc, machine, classes)?;
+    let mut next = Vec::new(alloc);
+    for choice in &choices {
+        add_wanted(&mut next, group, note, *choice)?;
+    }
+    Ok(next)
+}
+
+/// Whether nobody waits whom these notes concern, but the actors of a group.
+pub(crate) fn is_closed(
+    alloc: Global,
+    machine: &Machine<'_>,
+    classes: &[u32],
+    group: &[LooseTransition],
+    notes: &[StepNote],
+) -> Result<bool, AllocError>
+    requires order { IsInOrder (state_at machine.now) }
+    requires going { machine.now.core.finished ≡ false }
+    ensures { IfOk result (λ closed. closed ≡ true → (a : Actor) → IsWaiting (class_in classes.now) (state_at machine.now) a → concern notes.now a ≡ true → Contains group.now a) }
+{
+    let choices = loose_choices(alloc, machine, classes)?;
+    for choice in &choices {
+        if is_left_out(group, notes, *choice) {
+            return Ok(false);
+        }
+    }
+    Ok(true)
+}
+
+// Tells that an entry wasn't taken with a note. Fails where memory was refused.
+fn not_noted(fault: NotedFault) -> Result<bool, AllocError>
+    ensures { IfOk result (λ taken. taken ≡ false) }
+{
+    match fault {
+        NotedFault::NoteMemory => Err(AllocError),
+        NotedFault::NotTaken(TakeFault::ApplyMemory) => Err(AllocError),
+        NotedFault::NotTaken(TakeFault::Memory) => Err(AllocError),
+        _ => Ok(false),
+    }
+}
+
+/// Takes the event of an actor, and fills a note with what the step has to do with others. Answers whether it did. The turn is evaluated
+/// into a log.
+pub(crate) fn take_actor(
+    machine: &mut Machine<'_>,
+    classes: &[u32],
+    actor: LooseTransition,
+    log: &mut TurnLog,
+    note: &mut StepNote,
+) -> Result<bool, AllocError>
+    requires { IsInOrder (state_at machine.old) }
+    ensures taken { IfOk result (λ done. done ≡ true → IsActorStep (class_in classes.now) machine.old.code (state_at machine.old) actor note.new (state_at machine.new)) }
+    ensures code { machine.new.code ≡ machine.old.code }
+{
+    let entry = match entry_for(machine, classes, actor) {
+        Ok(entry) => entry,
+        Err(_) => return Ok(false),
+    };
+    match take_noted(machine, classes, entry, log, note) {
+        Ok(()) => Ok(true),
+        Err(fault) => not_noted(fault),
+    }
+}

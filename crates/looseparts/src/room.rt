@@ -1,0 +1,56 @@
+//! What ways are found in.
+use std::alloc::Global;
+use turn::TurnLog;
+
+// The most steps that are taken from one state, in all ways together: as many as the events of one certified run.
+const MOST_STEPS: usize = 4_096;
+
+// How many steps a state adds to what may be spent where no ways are found.
+const STEPS_OF_A_STATE: usize = 8;
+
+// How many steps are worth a try, for each actor who waits.
+const STEPS_OF_AN_ACTOR: usize = 32;
+
+/// What ways are found in, one state after another: the log of turns, how many steps may still be taken from a state, and how many may be
+/// spent where no ways are found.
+#[derive(Drop)]
+pub struct PartsRoom {
+    pub(crate) alloc: Global,
+    pub(crate) log: TurnLog,
+    steps: usize,
+    spare: usize,
+}
+
+impl PartsRoom {
+    /// Room for the first state.
+    pub fn new(alloc: Global) -> PartsRoom {
+        PartsRoom {
+            alloc,
+            log: TurnLog::new(alloc),
+            steps: 0,
+            spare: MOST_STEPS,
+        }
+    }
+
+    /// Permits steps from the next state, in which so many actors wait: all that may be spent, unless that is too little to be worth a try.
+    /// Answers whether it does. Where events conflict everywhere, a search then takes little longer than by following each transition.
+    pub(crate) fn permit(&mut self, actors: usize) -> bool {
+        self.spare = self.spare.saturating_add(STEPS_OF_A_STATE).min(MOST_STEPS);
+        self.steps = self.spare;
+        self.spare >= actors.saturating_mul(STEPS_OF_AN_ACTOR).min(MOST_STEPS)
+    }
+
+    /// Counts a step more, where one is left. Answers whether one was.
+    pub(crate) fn count_step(&mut self) -> bool {
+        if self.steps == 0 {
+            return false;
+        }
+        self.steps -= 1;
+        true
+    }
+
+    /// Tells that no ways were found: the steps that were taken are spent.
+    pub(crate) fn spend(&mut self) {
+        self.spare = self.steps;
+    }
+}

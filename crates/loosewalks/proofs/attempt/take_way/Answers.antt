@@ -1,0 +1,28 @@
+-- Each way stands for all where it may be tried.
+use Rattle.std.proofs.Common.{subst}
+use Rattle.loose.specs.Classes.{class_in}
+use Rattle.loosewalks.specs.Attempts.{IsFit}
+use Rattle.loosewalks.proofs.Walks.{phase_sole}
+use Rattle.loosewalks.proofs.Certifying.{certified_sole}
+use Rattle.loosewalks.proofs.Holding.{held_sole}
+use Rattle.loosewalks.proofs.GoingOn.{all_ok}
+use Rattle.loosewalks.proofs.attempt.take_way.Goals as goal
+
+pub returns-in-Phase-clause-sole : goal.returns-in-Phase-clause-sole
+returns-in-Phase-clause-sole c =
+    let scope = c.args.scope in
+    let old = c.args.machine.now in
+    let fit = subst (λ way. IsFit way old scope.network.now c.args.members.now) c.in-Phase.is c.requires.fit in
+    all_ok c.take_phase.result _ _ (λ passed. phase_sole (class_in scope.classes.now) scope.limits old c.take_phase.new.machine c.take_phase.new.way.items scope.network.now c.args.members.now fit c.requires.active (passed scope.limits)) c.take_phase.ensures.passed
+
+pub returns-in-Certified-clause-sole : goal.returns-in-Certified-clause-sole
+returns-in-Certified-clause-sole c =
+    let scope = c.args.scope in
+    all_ok c.take_certified.result _ _ (λ certified. certified_sole (class_in scope.classes.now) scope.limits c.args.machine.now c.take_certified.new.machine c.take_certified.new.room.way.items c.requires.active (certified scope.limits)) c.take_certified.ensures.certified
+
+pub returns-in-Held-clause-sole : goal.returns-in-Held-clause-sole
+returns-in-Held-clause-sole c =
+    let scope = c.args.scope in
+    let old = c.args.machine.now in
+    let fit = subst (λ way. IsFit way old scope.network.now c.args.members.now) c.in-Held.is c.requires.fit in
+    all_ok c.take_held.result _ _ (λ done. held_sole old c.take_held.new.machine scope.network.now c.args.members.now (class_in scope.classes.now) scope.limits c.take_held.new.room.way.items (done scope.limits fit) c.requires.active) c.take_held.ensures.done

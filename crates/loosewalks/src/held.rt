@@ -1,0 +1,118 @@
+//! A way of a walk through all that is active, in which combinational processes are held until the others are done.
+ghost use Rattle.std.specs.Prelude.{◌≡◌, true, IfOk, IfSome};
+ghost use Rattle.settling.specs.Settling.{MayBeHeld};
+ghost use Rattle.loose.specs.Classes.{class_in};
+ghost use Rattle.model.specs.Turns.{contains};
+ghost use Rattle.model.specs.declared.end.Limits.{Limits};
+ghost use Rattle.combinational.specs.Found.{IsNetworkOf};
+ghost use Rattle.loosewalks.specs.Held.{HasAddedHeldNote, HasTakenOthers, HasHeld};
+ghost use Rattle.noted.specs.NotedSteps.{IsOfOther};
+ghost use Rattle.regions.specs.Machine.{state_at};
+
+use crate::active::{NamedEntry, first_other};
+use crate::certified::add_noted;
+use crate::cone::keep_off;
+use crate::phase::take_on;
+use crate::room::{LooseRoom, WalkScope};
+use combinational::Network;
+use noted::take_noted_beside;
+use regions::Machine;
+use settling::{evaluated_processes, held_of};
+use std::alloc::{AllocError, Global};
+
+// The most events of others that a walk takes while processes are held.
+const MOST_EVENTS: u32 = 4_096;
+
+// Takes the event of an entry while processes are held, and adds its note to the certificate and its transition to the way. Answers
+// whether the notes certify.
+fn take_other(
+    machine: &mut Machine<'_>,
+    classes: &[u32],
+    held: &[u32],
+    room: &mut LooseRoom,
+    named: NamedEntry,
+) -> Result<bool, AllocError>
+    requires { IsOfOther (contains held.now) (state_at machine.old) named.entry }
+    ensures added { IfOk result (λ all. all ≡ true → HasAddedHeldNote (class_in classes.now) held.now machine.old named machine.new room.old.certificate room.new.certificate room.old.way.items room.new.way.items) }
+    ensures code { machine.new.code ≡ machine.old.code }
+{
+    room.way.push(named.transition)?;
+    let taken = take_noted_beside(
+        machine,
+        classes,
+        held,
+        named.entry,
+        &mut room.log,
+        &mut room.note,
+    );
+    let all = add_noted(room, taken)?;
+    Ok(all)
+}
+
+// Takes what is active but for events of held processes, one event after another with its note, until nothing else is. Answers whether it
+// came to that, and the notes certify.
+fn take_others(
+    machine: &mut Machine<'_>,
+    classes: &[u32],
+    held: &[u32],
+    room: &mut LooseRoom,
+) -> Result<bool, AllocError>
+    ensures taken { IfOk result (λ all. all ≡ true → (limits : Limits) → HasTakenOthers (class_in classes.now) limits held.now machine.old room.new.certificate room.new.way.items machine.new) }
+    ensures code { machine.new.code ≡ machine.old.code }
+{
+    room.way.clear();
+    room.certificate.clear();
+    for _ in 0..MOST_EVENTS {
+        let named = match first_other(machine, classes, held) {
+            Some(named) => named,
+            None => return Ok(room.certificate.certifies()),
+        };
+        if !take_other(machine, classes, held, room, named)? {
+            return Ok(false);
+        }
+    }
+    Ok(false)
+}
+
+/// Takes all that is active: what is held comes last. Answers whether it came to where nothing is active, and the steps of the others
+/// certify each other and keep off what is held.
+pub(crate) fn take_held(
+    alloc: Global,
+    network: &Network,
+    classes: &[u32],
+    held: &[u32],
+    room: &mut LooseRoom,
+    machine: &mut Machine<'_>,
+) -> Result<bool, AllocError>
+    ensures done { IfOk result (λ all. all ≡ true → (limits : Limits) → MayBeHeld machine.old.code (state_at machine.old) network.now held.now → HasHeld (class_in classes.now) limits machine.old network.now held.now room.new.way.items machine.new) }
+    ensures code { machine.new.code ≡ machine.old.code }
+{
+    let (_, evaluations) = machine.state().active();
+    let pending = evaluated_processes(alloc, evaluations)?;
+    if !take_others(machine, classes, held, room)? {
+        return Ok(false);
+    }
+    if !keep_off(alloc, network, held, &pending, room.certificate.notes())? {
+        return Ok(false);
+    }
+    let all = take_on(machine, classes, &mut room.way)?;
+    Ok(all)
+}
+
+/// The processes that may be held until the others are done, where there are any.
+pub(crate) fn held_members(
+    scope: WalkScope<'_>,
+    machine: &Machine<'_>,
+) -> Result<Option<Vec<u32>>, AllocError>
+    requires { IsNetworkOf machine.now.code scope.network.now }
+    ensures { IfOk result (λ found. IfSome found (λ held. MayBeHeld machine.now.code (state_at machine.now) scope.entry.network.now held.items)) }
+{
+    let held = match held_of(scope.alloc, machine, scope.network)? {
+        Some(held) => held,
+        None => return Ok(None),
+    };
+    if held.is_empty() {
+        return Ok(None);
+    }
+    Ok(Some(held))
+}

@@ -1,0 +1,166 @@
+//! Whether the members of a phase settle between its begin and its end.
+ghost use Rattle.std.specs.Prelude.{◌≡◌, ◌≢◌, ℕ, true, map, IfOk};
+ghost use Rattle.model.specs.Expressions.{value_of};
+ghost use Rattle.model.specs.Turns.{contains};
+ghost use Rattle.combinational.specs.Found.{IsNetworkOf};
+ghost use Rattle.settling.specs.Settled.{IsBeginOf, HasSettledSince, HaveSettledSince};
+
+use crate::consistent::has_value;
+use crate::member::{is_pending_or_settled, logic_at};
+use combinational::{Logic, Network, is_among};
+use design::RegId;
+use logic4::bits::Bits;
+use regions::{Evaluation, Machine, PlainStore};
+use std::alloc::{AllocError, Global};
+use std::collections::VecDeque;
+use turn::TurnLog;
+
+/// What is kept of the begin of a phase: the values of the registers, and the processes that were evaluated.
+#[derive(Drop)]
+pub struct Begin {
+    values: PlainStore,
+    pending: Vec<u32>,
+}
+
+/// The processes of evaluations, in their order.
+pub fn evaluated_processes(
+    alloc: Global,
+    evaluations: &VecDeque<Evaluation>,
+) -> Result<Vec<u32>, AllocError>
+    ensures { IfOk result (λ processes. processes.items ≡ map (λ e. e.process) evaluations.now.items) }
+{
+    let mut processes = Vec::new(alloc);
+    for at in 0..evaluations.len() {
+        let evaluation = evaluations[at];
+        processes.push(evaluation.process)?;
+    }
+    Ok(processes)
+}
+
+impl Begin {
+    /// Where a machine stands.
+    pub fn of(alloc: Global, machine: &Machine<'_>) -> Result<Begin, AllocError>
+        ensures { IfOk result (λ begin. IsBeginOf machine.now begin) }
+    {
+        machine.stands();
+        let (_, evaluations) = machine.state().active();
+        let pending = evaluated_processes(alloc, evaluations)?;
+        let values = machine.store().copy(alloc)?;
+        Ok(Begin { values, pending })
+    }
+}
+
+// Whether a register has another value than this.
+fn has_other_value(store: &PlainStore, register: RegId, value: &Bits) -> bool
+    ensures { result ≡ true → value_of store.now register ≢ value.now }
+{
+    match store.value(register) {
+        Some(old) => !(old == *value),
+        None => false,
+    }
+}
+
+// Whether a register has one value in a store and another one in another.
+fn differs(begin: &PlainStore, end: &PlainStore, register: RegId) -> bool
+    ensures { result ≡ true → value_of begin.now register ≢ value_of end.now register }
+{
+    match end.value(register) {
+        Some(value) => has_other_value(begin, register, &value),
+        None => false,
+    }
+}
+
+// Whether one of these registers does.
+fn any_differs(begin: &PlainStore, end: &PlainStore, registers: &[RegId]) -> bool
+    ensures { result ≡ true → (r : ℕ) × (contains registers.now r ≡ true) × (value_of begin.now r ≢ value_of end.now r) }
+{
+    for register in registers {
+        if differs(begin, end, *register) {
+            return true;
+        }
+    }
+    false
+}
+
+// Whether a register has one value in both stores.
+fn is_kept(begin: &PlainStore, end: &PlainStore, register: RegId) -> bool
+    ensures { result ≡ true → value_of begin.now register ≡ value_of end.now register }
+{
+    match end.value(register) {
+        Some(value) => has_value(begin, register, &value),
+        None => false,
+    }
+}
+
+// Whether each of these registers has.
+fn are_kept(begin: &PlainStore, end: &PlainStore, registers: &[RegId]) -> bool
+    ensures { result ≡ true → (r : ℕ) → contains registers.now r ≡ true → value_of begin.now r ≡ value_of end.now r }
+{
+    for register in registers {
+        if !is_kept(begin, end, *register) {
+            return false;
+        }
+    }
+    true
+}
+
+// Whether each register that some logic reads or writes has.
+fn is_untouched(begin: &PlainStore, end: &PlainStore, logic: &Logic) -> bool
+    ensures inputs { result ≡ true → (r : ℕ) → contains logic.now.inputs.items r ≡ true → value_of begin.now r ≡ value_of end.now r }
+    ensures outputs { result ≡ true → (r : ℕ) → contains logic.now.outputs.items r ≡ true → value_of begin.now r ≡ value_of end.now r }
+{
+    if !are_kept(begin, end, logic.inputs.as_slice()) {
+        return false;
+    }
+    are_kept(begin, end, logic.outputs.as_slice())
+}
+
+// Whether a process settled: it was pending at the begin, or one of its inputs has another value now, or it has settled and is untouched,
+// so that it had settled at the begin. Where its turn has to be evaluated, that is done into the log.
+fn settles(
+    log: &mut TurnLog,
+    begin: &Begin,
+    machine: &Machine<'_>,
+    network: &Network,
+    process: u32,
+) -> Result<bool, AllocError>
+    requires found { IsNetworkOf machine.now.code network.now }
+    ensures { IfOk result (λ settled. settled ≡ true → HasSettledSince begin.now machine.now network.now process) }
+{
+    if is_among(&begin.pending, process) {
+        return Ok(true);
+    }
+    let logic = match logic_at(network, process) {
+        Some(logic) => logic,
+        None => return Ok(false),
+    };
+    if any_differs(&begin.values, machine.store(), logic.inputs.as_slice()) {
+        return Ok(true);
+    }
+    if !is_untouched(&begin.values, machine.store(), logic) {
+        return Ok(false);
+    }
+    machine.stands();
+    is_pending_or_settled(log, machine, network, process)
+}
+
+/// Whether each of these processes, the members of a phase that began so, settles from there to where a machine stands, at the end of the
+/// phase: it was pending at the begin, or had settled, or one of its inputs has another value. Fails where memory is refused.
+pub fn settle_since(
+    alloc: Global,
+    begin: &Begin,
+    machine: &Machine<'_>,
+    network: &Network,
+    members: &[u32],
+) -> Result<bool, AllocError>
+    requires found { IsNetworkOf machine.now.code network.now }
+    ensures { IfOk result (λ settled. settled ≡ true → HaveSettledSince begin.now machine.now network.now members.now) }
+{
+    let mut log = TurnLog::new(alloc);
+    for member in members {
+        if !settles(&mut log, begin, machine, network, *member)? {
+            return Ok(false);
+        }
+    }
+    Ok(true)
+}

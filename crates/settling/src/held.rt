@@ -1,0 +1,145 @@
+//! Which combinational processes may be held while others go on.
+ghost use Rattle.std.specs.Prelude.{◌≡◌, ℕ, true, map, IfOk, IfSome};
+ghost use Rattle.model.specs.Turns.{contains};
+ghost use Rattle.orders.specs.Alike.{updates_in};
+ghost use Rattle.combinational.specs.Found.{IsNetworkOf};
+ghost use Rattle.regions.specs.Machine.{state_at};
+ghost use Rattle.settling.specs.Settling.{IsPendingOrSettled, ArePendingOrSettled, HaveOutputs, MayBeHeld};
+
+use crate::awaited::others_sleep;
+use crate::member::is_pending_or_settled;
+use crate::phase::{is_over, outputs_at, outputs_of, updated};
+use combinational::{Network, share};
+use design::RegId;
+use regions::Machine;
+use std::alloc::{AllocError, Global};
+use turn::TurnLog;
+
+// Whether a process is combinational, and pending or settled, and none of its outputs is among these registers. Where its turn has to be
+// evaluated, that is done into the log.
+fn is_candidate(
+    log: &mut TurnLog,
+    machine: &Machine<'_>,
+    network: &Network,
+    registers: &[RegId],
+    process: u32,
+) -> Result<bool, AllocError>
+    requires found { IsNetworkOf machine.now.code network.now }
+    ensures { IfOk result (λ candidate. candidate ≡ true → IsPendingOrSettled machine.now.code (state_at machine.now) network.now process) }
+{
+    if share(outputs_at(network, process), registers) {
+        return Ok(false);
+    }
+    is_pending_or_settled(log, machine, network, process)
+}
+
+// The processes that are combinational, and pending or settled, and none of whose outputs is among these registers. Turns that have to be
+// evaluated for that are so into the log.
+fn candidates(
+    alloc: Global,
+    log: &mut TurnLog,
+    machine: &Machine<'_>,
+    network: &Network,
+    registers: &[RegId],
+) -> Result<Vec<u32>, AllocError>
+    requires found { IsNetworkOf machine.now.code network.now }
+    ensures { IfOk result (λ members. ArePendingOrSettled machine.now.code (state_at machine.now) network.now members.items) }
+{
+    let mut members = Vec::new(alloc);
+    for process in 0..machine.design().processes() {
+        if is_candidate(log, machine, network, registers, process)? {
+            members.push(process)?;
+        }
+    }
+    Ok(members)
+}
+
+// Those of these processes for whose outputs nobody else waits.
+fn unawaited(
+    alloc: Global,
+    machine: &Machine<'_>,
+    network: &Network,
+    members: &[u32],
+) -> Result<Vec<u32>, AllocError>
+    requires each { ArePendingOrSettled machine.now.code (state_at machine.now) network.now members.now }
+    ensures { IfOk result (λ fewer. ArePendingOrSettled machine.now.code (state_at machine.now) network.now fewer.items) }
+{
+    let controls = machine.design().event_controls();
+    let processes = machine.state().processes();
+    let mut fewer = Vec::new(alloc);
+    for member in members {
+        if others_sleep(controls, processes, members, outputs_at(network, *member)) {
+            fewer.push(*member)?;
+        }
+    }
+    Ok(fewer)
+}
+
+// These processes without those for whose outputs others wait, and without those for whose outputs these wait, and so on.
+fn kept(
+    alloc: Global,
+    machine: &Machine<'_>,
+    network: &Network,
+    members: Vec<u32>,
+) -> Result<Vec<u32>, AllocError>
+    requires each { ArePendingOrSettled machine.now.code (state_at machine.now) network.now members.items }
+    ensures { IfOk result (λ fewer. ArePendingOrSettled machine.now.code (state_at machine.now) network.now fewer.items) }
+{
+    let mut members = members;
+    for _ in 0..members.len() {
+        let fewer = unawaited(alloc, machine, network, &members)?;
+        if fewer.len() == members.len() {
+            return Ok(fewer);
+        }
+        members = fewer;
+    }
+    Ok(members)
+}
+
+// Whether members with these outputs may be held where these registers are updated.
+fn may_be_held(
+    machine: &Machine<'_>,
+    network: &Network,
+    members: &[u32],
+    outputs: &[RegId],
+    registers: &[RegId],
+) -> bool
+    requires found { IsNetworkOf machine.now.code network.now }
+    requires each { ArePendingOrSettled machine.now.code (state_at machine.now) network.now members.now }
+    requires outputs { HaveOutputs network.now members.now outputs.now }
+    requires registers { registers.now ≡ map (λ u. u.0) (updates_in (state_at machine.now).active) }
+    ensures { result ≡ true → MayBeHeld machine.now.code (state_at machine.now) network.now members.now }
+{
+    if is_over(machine) {
+        return false;
+    }
+    if share(registers, outputs) {
+        return false;
+    }
+    machine.stands();
+    let controls = machine.design().event_controls();
+    let processes = machine.state().processes();
+    others_sleep(controls, processes, members, outputs)
+}
+
+/// Combinational processes that may be held in the state of a machine while the others go on: as many as are found. None where that isn't
+/// told.
+pub fn held_of(
+    alloc: Global,
+    machine: &Machine<'_>,
+    network: &Network,
+) -> Result<Option<Vec<u32>>, AllocError>
+    requires found { IsNetworkOf machine.now.code network.now }
+    ensures { IfOk result (λ found. IfSome found (λ members. MayBeHeld machine.now.code (state_at machine.now) network.now members.items)) }
+{
+    let (updates, _) = machine.state().active();
+    let registers = updated(alloc, updates)?;
+    let mut log = TurnLog::new(alloc);
+    let members = candidates(alloc, &mut log, machine, network, &registers)?;
+    let members = kept(alloc, machine, network, members)?;
+    let outputs = outputs_of(alloc, network, &members)?;
+    if !may_be_held(machine, network, &members, &outputs, &registers) {
+        return Ok(None);
+    }
+    Ok(Some(members))
+}
