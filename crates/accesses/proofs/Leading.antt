@@ -1,13 +1,14 @@
 -- A machine that is led along a journal, and the logs of turns.
-use Rattle.std.proofs.Common.{◌≡◌, ℕ, ◌+◌, ◌<◌, Bool, true, false, List, [], ◌∷◌, ◌++◌, map, take, get_or, length, Option, Some, None, is_some, refl, sym, ◌∙◌, ap, subst}
-use Rattle.std.specs.Prelude.{option_and_then, option_map, ◌||◌}
+use Rattle.std.proofs.Common.{◌≡◌, ℕ, ◌+◌, ◌<◌, Bool, true, false, List, [], ◌∷◌, ◌++◌, map, take, get_or, length, Option, Some, None, is_some, refl, sym, ◌∙◌, ap, subst, arith}
+use Rattle.std.specs.Prelude.{option_and_then, option_map, ◌==◌, ◌||◌, not}
 use Rattle.std.specs.List.{list_any}
 use Rattle.std.specs.Map.{lookup}
+use Rattle.std.proofs.lemmas.Bool.{ne_eqb, not_from_false}
 use Rattle.std.proofs.lemmas.List.{append_assoc, take_more}
 use Rattle.model.specs.declared.entry.Entry.{Entry}
 use Rattle.model.specs.Design.{Design}
 use Rattle.model.specs.States.{State, start}
-use Rattle.model.specs.Runs.{Effect, silent, step, run_from, run, after, joined}
+use Rattle.model.specs.Runs.{Effect, has_any, silent, step, run_from, run, after, joined}
 use Rattle.model.proofs.RunLaws.{run_from-append}
 use Rattle.design.specs.Compiled.{Compiled, design_of}
 use Rattle.regions.specs.StepLogs.{IsTaken}
@@ -68,3 +69,8 @@ looked_up t (e ∷ es) = looked_by t (t e.0) e es refl (looked_up t es)
 pub any_of_map : {X Y : Type 0} (t : Y → Bool) (f : X → Y) (xs : List X) → list_any t (map f xs) ≡ list_any (λ x. t (f x)) xs
 any_of_map t f [] = refl
 any_of_map t f (x ∷ xs) = ap (λ (b : Bool). t (f x) || b) (any_of_map t f xs)
+
+-- what is mapped has one where the list isn't empty
+pub any_mapped : {X Y : Type 0} (f : X → Y) (xs : List X) → has_any (map f xs) ≡ not (length xs == 0)
+any_mapped f [] = refl
+any_mapped f (x ∷ xs) = sym (not_from_false (length (x ∷ xs) == 0) (ne_eqb (length (x ∷ xs)) 0 (λ h. absurd (omega (arith, h)))))

@@ -1,4 +1,4 @@
--- What an entry of a run does at a register, where lines are printed, or where the run ends.
+-- What an entry of a run does at a register, where lines are printed or updates are put in order, or where the run ends.
 use Rattle.std.specs.Prelude.{◌≡◌, ℕ, Bool, true, false, ◌==◌, List, [], ◌∷◌, ◌++◌, Some}
 use Rattle.std.specs.List.{All, list_any}
 use Rattle.logic4.specs.Vector.{Vector}
@@ -10,9 +10,9 @@ use Rattle.model.specs.States.{Evaluate, Update, State}
 use Rattle.model.specs.Runs.{action_in, has_any, turn_of, after}
 use Rattle.regions.specs.Machine.{IsChange}
 use Rattle.accesses.specs.declared.role.Site.{Site}
-use Rattle.accesses.specs.declared.role.Site.TheVariants.{Register, Printing, Strobing, Finishing}
+use Rattle.accesses.specs.declared.role.Site.TheVariants.{Register, Printing, Strobing, Finishing, Updating}
 use Rattle.accesses.specs.declared.role.Does.{Does}
-use Rattle.accesses.specs.declared.role.Does.TheVariants.{Writes, Assigns, Updates, Reads, Waits, Prints, Strobes, Finishes, Runs}
+use Rattle.accesses.specs.declared.role.Does.TheVariants.{Writes, Assigns, Updates, Reads, Waits, Prints, Strobes, Finishes, Runs, Schedules}
 use Rattle.accesses.specs.declared.role.Role.{Role}
 
 -- whether a process waits for changes of a register (9.7)
@@ -34,6 +34,7 @@ does_to r Prints turn = false
 does_to r Strobes turn = false
 does_to r Finishes turn = turn.finish
 does_to r Runs turn = false
+does_to r Schedules turn = false
 
 -- whether a turn does this where lines are printed: prints one
 abbrev pub does_print : Does → Turn → Bool
@@ -46,6 +47,7 @@ does_print Prints turn = has_any turn.lines
 does_print Strobes turn = false
 does_print Finishes turn = false
 does_print Runs turn = false
+does_print Schedules turn = false
 
 -- whether a turn does this where the lines of $strobe statements are put in order: meets one
 abbrev pub does_strobe : Does → Turn → Bool
@@ -58,6 +60,7 @@ does_strobe Prints turn = false
 does_strobe Strobes turn = has_any turn.strobes
 does_strobe Finishes turn = false
 does_strobe Runs turn = false
+does_strobe Schedules turn = false
 
 -- whether a turn does this where the run ends: meets $finish, behind which no entry comes, prints a line, or is any turn
 abbrev pub does_finish : Does → Turn → Bool
@@ -70,6 +73,20 @@ does_finish Prints turn = has_any turn.lines
 does_finish Strobes turn = false
 does_finish Finishes turn = turn.finish
 does_finish Runs turn = true
+does_finish Schedules turn = false
+
+-- whether a turn does this where updates are put in order: makes a nonblocking assignment
+abbrev pub does_schedule : Does → Turn → Bool
+does_schedule Writes turn = false
+does_schedule Assigns turn = false
+does_schedule Updates turn = false
+does_schedule Reads turn = false
+does_schedule Waits turn = false
+does_schedule Prints turn = false
+does_schedule Strobes turn = false
+does_schedule Finishes turn = false
+does_schedule Runs turn = false
+does_schedule Schedules turn = has_any turn.nbas
 
 -- whether a turn does this at a site
 abbrev pub does_at : Site → Does → Turn → Bool
@@ -77,6 +94,7 @@ does_at (Register r) does turn = does_to r does turn
 does_at Printing does turn = does_print does turn
 does_at Strobing does turn = does_strobe does turn
 does_at Finishing does turn = does_finish does turn
+does_at Updating does turn = does_schedule does turn
 
 -- The event with a number is an evaluation of the role's process, and the turn that it has here does at the site what the role
 -- says.

@@ -1,7 +1,9 @@
 //! What the entries of a run do, by the turns that they have where they stand.
-ghost use Rattle.std.specs.Prelude.{◌≡◌, ◌==◌, IfSome};
+ghost use Rattle.std.specs.Prelude.{◌≡◌, ◌==◌, IfSome, List};
 ghost use Rattle.std.specs.List.{list_any};
+ghost use Rattle.model.specs.Design.{Trigger};
 ghost use Rattle.model.specs.Turns.{Turn};
+ghost use Rattle.model.specs.Runs.{has_any};
 ghost use Rattle.turn.specs.TurnLogs.{wait_of};
 ghost use Rattle.turn.specs.Reads.{registers};
 ghost use Rattle.accesses.specs.Roles as roles;
@@ -46,6 +48,13 @@ fn waits(log: &TurnLog, controls: &[Control], register: RegId) -> bool
     }
 }
 
+// Whether a turn made a nonblocking assignment.
+fn schedules(log: &TurnLog) -> bool
+    ensures { (controls : List (List Trigger)) (turn : Turn) → IsTurnInLog controls log.now turn → result ≡ has_any turn.nbas }
+{
+    !log.nbas().is_empty()
+}
+
 // Whether a turn does this to a register.
 fn does_to(log: &TurnLog, controls: &[Control], register: RegId, does: Does) -> bool
     ensures { (turn : Turn) → IsTurnInLog controls.now log.now turn → result ≡ roles.does_to register does turn }
@@ -56,7 +65,7 @@ fn does_to(log: &TurnLog, controls: &[Control], register: RegId, does: Does) -> 
         Does::Reads => reads(log, register),
         Does::Waits => waits(log, controls, register),
         Does::Finishes => log.is_finish(),
-        Does::Updates | Does::Prints | Does::Strobes | Does::Runs => false,
+        Does::Updates | Does::Prints | Does::Strobes | Does::Runs | Does::Schedules => false,
     }
 }
 
@@ -71,6 +80,7 @@ pub(crate) fn does_at(log: &TurnLog, controls: &[Control], site: Site, does: Doe
         (Site::Finishing, Does::Prints) => !log.lines().is_empty(),
         (Site::Finishing, Does::Finishes) => log.is_finish(),
         (Site::Finishing, Does::Runs) => true,
+        (Site::Updating, Does::Schedules) => schedules(log),
         _ => false,
     }
 }

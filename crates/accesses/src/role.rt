@@ -5,17 +5,18 @@ ghost use Rattle.accesses.specs.declared.role.Does.TheVariants.{Finishes};
 use design::RegId;
 
 /// What two entries race for: a register, the order of the lines that they print, the order of the lines of their `$strobe`
-/// statements, or whether the run is finished before the other one comes.
+/// statements, whether the run is finished before the other one comes, or the order of the updates of their nonblocking assignments.
 #[derive(Clone, Copy, PartialEq, Eq, Hash)]
 pub enum Site {
     Register(RegId),
     Printing,
     Strobing,
     Finishing,
+    Updating,
 }
 
-/// What an entry does where it races. An update is that of an earlier turn's nonblocking assignment, and a turn runs whatever
-/// else it does.
+/// What an entry does where it races. An update is that of an earlier turn's nonblocking assignment, a turn runs whatever
+/// else it does, and it schedules updates by nonblocking assignments.
 #[derive(Clone, Copy)]
 pub enum Does {
     Writes,
@@ -27,6 +28,7 @@ pub enum Does {
     Strobes,
     Finishes,
     Runs,
+    Schedules,
 }
 
 /// A process, and what it does.

@@ -101,11 +101,14 @@ parameters_of task.Races =
 parameters_of task.Check = parameter.File ∷ parameter.All ∷ []
 parameters_of task.Explain = parameter.File ∷ parameter.Journal ∷ parameter.From ∷ parameter.To ∷ []
 parameters_of task.Waves = parameter.File ∷ parameter.Journal ∷ parameter.Out ∷ []
+parameters_of task.Diff = parameter.File ∷ parameter.FirstJournal ∷ parameter.SecondJournal ∷ []
 
 -- the rule of a word or an option
 abbrev pub rule_for : Parameter → Rule
 rule_for parameter.File = rule (codes "FILE") true None
 rule_for parameter.Journal = rule (codes "JOURNAL") true None
+rule_for parameter.FirstJournal = rule (codes "J1") true None
+rule_for parameter.SecondJournal = rule (codes "J2") true None
 rule_for parameter.Workers = rule (codes "workers") false (Some workers_parser)
 rule_for parameter.Until = rule (codes "until") false (Some until_parser)
 rule_for parameter.MaxEntries = rule (codes "max-entries") false (Some entries_parser)
@@ -172,6 +175,12 @@ pub record GivesWaves (f : Found) : Type 0 where
   pub journal : is_some (first_value f (codes "JOURNAL")) ≡ true
   pub out : is_some (first_value f (codes "out")) ≡ true
 
+-- what a parse of `diff` gives
+pub record GivesDiff (f : Found) : Type 0 where
+  pub file : is_some (first_value f (codes "FILE")) ≡ true
+  pub first : is_some (first_value f (codes "J1")) ≡ true
+  pub second : is_some (first_value f (codes "J2")) ≡ true
+
 -- what a parse of the words of a task gives
 abbrev pub Gives : CommandTask → Found → Type 0
 Gives task.Run f = GivesRun f
@@ -180,3 +189,4 @@ Gives task.Races f = GivesRaces f
 Gives task.Check f = GivesCheck f
 Gives task.Explain f = GivesExplain f
 Gives task.Waves f = GivesWaves f
+Gives task.Diff f = GivesDiff f

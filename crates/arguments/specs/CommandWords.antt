@@ -19,6 +19,7 @@ use Rattle.arguments.specs.declared.request.RacesRequest.{RacesRequest}
 use Rattle.arguments.specs.declared.request.CheckRequest.{CheckRequest}
 use Rattle.arguments.specs.declared.request.ExplainRequest.{ExplainRequest}
 use Rattle.arguments.specs.declared.request.WavesRequest.{WavesRequest}
+use Rattle.arguments.specs.declared.request.DiffRequest.{DiffRequest}
 use Rattle.arguments.specs.declared.parameters.Parameter.{Parameter}
 use Rattle.arguments.specs.declared.parameters.Parameter.TheVariants as parameter
 use Rattle.arguments.specs.declared.command_task.CommandTask.{CommandTask}
@@ -57,6 +58,8 @@ flag name = record (new_rule name) { long = Some name; action = Some SetTrue; pa
 abbrev pub argument_of : Parameter → Rule
 argument_of parameter.File = place (codes "FILE")
 argument_of parameter.Journal = place (codes "JOURNAL")
+argument_of parameter.FirstJournal = place (codes "J1")
+argument_of parameter.SecondJournal = place (codes "J2")
 argument_of parameter.Workers = choice (codes "workers") (Some workers_parser)
 argument_of parameter.Until = choice (codes "until") (Some until_parser)
 argument_of parameter.MaxEntries = choice (codes "max-entries") (Some entries_parser)
@@ -147,6 +150,15 @@ waves_app =
     (place (codes "JOURNAL")))
     (need (codes "out"))
 
+-- `diff` with its words
+unfoldable pub diff_app : App
+diff_app =
+    with_rule
+    (with_rule
+    (with_rule (new_app (codes "diff")) (place (codes "FILE")))
+    (place (codes "J1")))
+    (place (codes "J2"))
+
 -- the command of a task
 abbrev pub app_by : CommandTask → App
 app_by task.Run = run_app
@@ -155,6 +167,7 @@ app_by task.Races = races_app
 app_by task.Check = check_app
 app_by task.Explain = explain_app
 app_by task.Waves = waves_app
+app_by task.Diff = diff_app
 
 -- a program with the commands of these tasks more
 abbrev pub with_tasks : App → List CommandTask → App
@@ -163,16 +176,17 @@ with_tasks app (asked ∷ more) = with_tasks (with_subcommand app (app_by asked)
 
 -- all tasks
 abbrev pub every_task : List CommandTask
-every_task = task.Run ∷ task.Replay ∷ task.Races ∷ task.Check ∷ task.Explain ∷ task.Waves ∷ []
+every_task = task.Run ∷ task.Replay ∷ task.Races ∷ task.Check ∷ task.Explain ∷ task.Waves ∷ task.Diff ∷ []
 
 -- the program, which has a version
 abbrev pub bare_app : App
 bare_app = on_top (λ s. record s { has_version = true; subcommand_required = true; arg_required_else_help = true }) (new_app (codes "vsimtx"))
 
--- the program with the six
+-- the program with the seven
 unfoldable pub whole_app : App
 whole_app =
     with_subcommand
+    (with_subcommand
     (with_subcommand
     (with_subcommand
     (with_subcommand
@@ -182,7 +196,8 @@ whole_app =
     races_app.top)
     check_app.top)
     explain_app.top)
-    waves_app.top
+    waves_app.top)
+    diff_app.top
 
 -- what clap finds in the words of a run, from `run` on
 unfoldable pub run_rows : List Text → List Row
@@ -207,6 +222,10 @@ explain_rows = matches_of explain_app
 -- and in those of a value change dump
 unfoldable pub waves_rows : List Text → List Row
 waves_rows = matches_of waves_app
+
+-- and in those of a comparison of two journals
+unfoldable pub diff_rows : List Text → List Row
+diff_rows = matches_of diff_app
 
 -- what clap finds in the words of a task
 abbrev pub rows_by : CommandTask → List Text → List Row
@@ -262,6 +281,7 @@ word_of_task task.Races = codes "races"
 word_of_task task.Check = codes "check"
 word_of_task task.Explain = codes "explain"
 word_of_task task.Waves = codes "waves"
+word_of_task task.Diff = codes "diff"
 
 -- the word after the program's name asks for no task
 abbrev pub AsksNoTask : List Text → Type 0
@@ -308,6 +328,12 @@ pub record IsWavesOf (rows : List Row) (waves : WavesRequest) : Type 0 where
   pub journal : first_of (codes "JOURNAL") rows ≡ Some waves.journal.now
   pub out : first_of (codes "out") rows ≡ Some waves.out.now
 
+-- this comparison is asked for: of J1 and J2 on FILE
+pub record IsDiffOf (rows : List Row) (diff : DiffRequest) : Type 0 where
+  pub file : first_of (codes "FILE") rows ≡ Some diff.file.now
+  pub first : first_of (codes "J1") rows ≡ Some diff.first.now
+  pub second : first_of (codes "J2") rows ≡ Some diff.second.now
+
 -- this is asked for by what clap finds in the words of a task
 abbrev pub IsAskedBy : CommandTask → List Row → Request → Type 0
 IsAskedBy asked rows (request.Run run) = (asked ≡ task.Run) × IsRunOf rows run
@@ -316,6 +342,7 @@ IsAskedBy asked rows (request.Races races) = (asked ≡ task.Races) × IsRacesOf
 IsAskedBy asked rows (request.Check check) = (asked ≡ task.Check) × IsCheckOf rows check
 IsAskedBy asked rows (request.Explain explain) = (asked ≡ task.Explain) × IsExplainOf rows explain
 IsAskedBy asked rows (request.Waves waves) = (asked ≡ task.Waves) × IsWavesOf rows waves
+IsAskedBy asked rows (request.Diff diff) = (asked ≡ task.Diff) × IsDiffOf rows diff
 IsAskedBy asked rows request.Version = ⊥
 
 -- the words ask for this run
@@ -348,6 +375,11 @@ pub record AsksWaves (words : List Text) (waves : WavesRequest) : Type 0 where
   pub begins : Begins words (codes "waves")
   pub is_waves : IsWavesOf (waves_rows (drop 1 words)) waves
 
+-- the words ask for this comparison of two journals
+pub record AsksDiff (words : List Text) (diff : DiffRequest) : Type 0 where
+  pub begins : Begins words (codes "diff")
+  pub is_diff : IsDiffOf (diff_rows (drop 1 words)) diff
+
 -- the words ask for this
 abbrev pub Asks : List Text → Request → Type 0
 Asks words (request.Run run) = AsksRun words run
@@ -356,6 +388,7 @@ Asks words (request.Races races) = AsksRaces words races
 Asks words (request.Check check) = AsksCheck words check
 Asks words (request.Explain explain) = AsksExplain words explain
 Asks words (request.Waves waves) = AsksWaves words waves
+Asks words (request.Diff diff) = AsksDiff words diff
 Asks words request.Version = Begins words (codes "--version")
 
 -- the kinds of error by which clap may answer the words of a run, from `run` on
@@ -382,6 +415,10 @@ explain_faults = fault_of explain_app
 unfoldable pub waves_faults : List Text → Kinds
 waves_faults = fault_of waves_app
 
+-- those of a comparison of two journals
+unfoldable pub diff_faults : List Text → Kinds
+diff_faults = fault_of diff_app
+
 -- those of a task
 abbrev pub faults_by : CommandTask → List Text → Kinds
 faults_by asked = fault_of (app_by asked)
@@ -399,6 +436,7 @@ pub data MayFail (words : List Text) (kind : ErrorKind) : Type 0 where
   of_check : Begins words (codes "check") → IsAmong kind (check_faults (drop 1 words)) → MayFail words kind
   of_explain : Begins words (codes "explain") → IsAmong kind (explain_faults (drop 1 words)) → MayFail words kind
   of_waves : Begins words (codes "waves") → IsAmong kind (waves_faults (drop 1 words)) → MayFail words kind
+  of_diff : Begins words (codes "diff") → IsAmong kind (diff_faults (drop 1 words)) → MayFail words kind
   of_others : AsksNoTask words → IsAmong kind (other_faults words) → MayFail words kind
 
 -- memory was refused, or clap may answer the words so

@@ -12,6 +12,7 @@ pub enum CommandTask {
     Check,
     Explain,
     Waves,
+    Diff,
 }
 
 impl CommandTask {
@@ -26,6 +27,7 @@ impl CommandTask {
             CommandTask::Check,
             CommandTask::Explain,
             CommandTask::Waves,
+            CommandTask::Diff,
         ]
     }
 
@@ -40,6 +42,7 @@ impl CommandTask {
             CommandTask::Check => "check",
             CommandTask::Explain => "explain",
             CommandTask::Waves => "waves",
+            CommandTask::Diff => "diff",
         }
     }
 
@@ -52,6 +55,7 @@ impl CommandTask {
             CommandTask::Check => "vsimtx check",
             CommandTask::Explain => "vsimtx explain",
             CommandTask::Waves => "vsimtx waves",
+            CommandTask::Diff => "vsimtx diff",
         }
     }
 
@@ -67,6 +71,7 @@ impl CommandTask {
             CommandTask::Waves => {
                 "Writes the registers of JOURNAL on FILE over time as a value change dump"
             }
+            CommandTask::Diff => "Shows where two journals of FILE part, and what differs",
         }
     }
 }

@@ -3,12 +3,13 @@
 ghost use Rattle.std.specs.Prelude.{◌≡◌, ◌≤◌, ◌^◌, ◌∷◌, IfSome, codes, is_some, unwrap_or, false};
 ghost use Rattle.clap.specs.Words.{first_of, found_of, rows_of};
 ghost use Rattle.model.specs.Runs.{last_time};
-ghost use Rattle.arguments.specs.Arguments.{IsGivenArgument, GivesRun, GivesReplay, GivesRaces, GivesCheck, GivesExplain, GivesWaves, flag_parser, workers_parser, until_parser, entries_parser, seed_parser};
+ghost use Rattle.arguments.specs.Arguments.{IsGivenArgument, GivesRun, GivesReplay, GivesRaces, GivesCheck, GivesExplain, GivesWaves, GivesDiff, flag_parser, workers_parser, until_parser, entries_parser, seed_parser};
 ghost use Rattle.arguments.specs.Options.{CanRun, CanSearch};
-ghost use Rattle.arguments.specs.CommandWords.{IsCheckOf, IsExplainOf, IsRacesOf, IsReplayOf, IsRunOf, IsWavesOf, search_options_of, flag_given, has_two_orders, number_given, options_of};
+ghost use Rattle.arguments.specs.CommandWords.{IsCheckOf, IsDiffOf, IsExplainOf, IsRacesOf, IsReplayOf, IsRunOf, IsWavesOf, search_options_of, flag_given, has_two_orders, number_given, options_of};
 
 use crate::request::{
-    CheckRequest, ExplainRequest, RacesRequest, ReplayRequest, RunRequest, WavesRequest,
+    CheckRequest, DiffRequest, ExplainRequest, RacesRequest, ReplayRequest, RunRequest,
+    WavesRequest,
 };
 use crate::run_options::RunOptions;
 use crate::search_options::SearchOptions;
@@ -98,6 +99,21 @@ pub fn waves_request<'a>(matches: &ArgMatches<'a>) -> WavesRequest<'a>
     let journal = matches.get_str("JOURNAL").unwrap();
     let out = matches.get_str("out").unwrap();
     WavesRequest { file, journal, out }
+}
+
+/// The comparison that the words of `diff` ask for: of which journals, on which source.
+pub fn diff_request<'a>(matches: &ArgMatches<'a>) -> DiffRequest<'a>
+    requires { GivesDiff (found_of matches.now) }
+    ensures { IsDiffOf (rows_of (found_of matches.now)) result }
+{
+    let file = matches.get_str("FILE").unwrap();
+    let first = matches.get_str("J1").unwrap();
+    let second = matches.get_str("J2").unwrap();
+    DiffRequest {
+        file,
+        first,
+        second,
+    }
 }
 
 /// Whether both a seed and a number of workers are given.

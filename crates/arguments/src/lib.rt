@@ -23,8 +23,8 @@ mod version;
 
 pub use parsing::read_request;
 pub use request::{
-    CheckRequest, ExplainRequest, NoRequest, RacesRequest, ReplayRequest, Request, RunRequest,
-    WavesRequest,
+    CheckRequest, DiffRequest, ExplainRequest, NoRequest, RacesRequest, ReplayRequest, Request,
+    RunRequest, WavesRequest,
 };
 pub use run_options::RunOptions;
 pub use search_options::SearchOptions;

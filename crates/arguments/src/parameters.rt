@@ -23,6 +23,8 @@ const SAMPLES: &str = "Tries N random lawful orders in place of the search, 1 to
 pub enum Parameter {
     File,
     Journal,
+    FirstJournal,
+    SecondJournal,
     Workers,
     Until,
     MaxEntries,
@@ -59,6 +61,8 @@ pub fn argument<'a>(alloc: Global, parameter: Parameter) -> Arg<'a>
     match parameter {
         Parameter::File => positional(alloc, "FILE", "Verilog source"),
         Parameter::Journal => positional(alloc, "JOURNAL", "Journal of a run"),
+        Parameter::FirstJournal => positional(alloc, "J1", "Journal of a run"),
+        Parameter::SecondJournal => positional(alloc, "J2", "Journal of another run"),
         Parameter::Workers => workers(alloc),
         Parameter::Until => until(alloc),
         Parameter::MaxEntries => count(alloc, "max-entries", MAX_ENTRIES),

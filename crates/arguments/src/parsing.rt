@@ -15,8 +15,8 @@ ghost use Rattle.arguments.specs.declared.command_task.CommandTask.TheVariants.{
 use crate::command_task::CommandTask;
 use crate::commands::{conflict, missing, task_matches, whole_matches};
 use crate::given::{
-    check_request, explain_request, gives_two_orders, races_request, replay_request, run_request,
-    waves_request,
+    check_request, diff_request, explain_request, gives_two_orders, races_request, replay_request,
+    run_request, waves_request,
 };
 use crate::request::{NoRequest, Request};
 use clap::error::ErrorKind;
@@ -110,6 +110,7 @@ fn asked_request<'a>(
         CommandTask::Check => Ok(Request::Check(check_request(matches))),
         CommandTask::Explain => Ok(Request::Explain(explain_request(matches))),
         CommandTask::Waves => Ok(Request::Waves(waves_request(matches))),
+        CommandTask::Diff => Ok(Request::Diff(diff_request(matches))),
     }
 }
 

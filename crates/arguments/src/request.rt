@@ -14,6 +14,7 @@ pub enum Request<'a> {
     Check(CheckRequest<'a>),
     Explain(ExplainRequest<'a>),
     Waves(WavesRequest<'a>),
+    Diff(DiffRequest<'a>),
     Version,
 }
 
@@ -65,6 +66,14 @@ pub struct WavesRequest<'a> {
     pub file: &'a str,
     pub journal: &'a str,
     pub out: &'a str,
+}
+
+/// `diff FILE J1 J2`.
+#[derive(Drop)]
+pub struct DiffRequest<'a> {
+    pub file: &'a str,
+    pub first: &'a str,
+    pub second: &'a str,
 }
 
 /// Why there is no request: help was asked for, the words are wrong, or memory was refused. A text

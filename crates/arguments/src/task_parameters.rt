@@ -6,8 +6,8 @@ ghost use Rattle.arguments.specs.Arguments.{parameters_of};
 use crate::command_task::CommandTask;
 use crate::parameters::Parameter;
 use crate::parameters::Parameter::{
-    All, File, From, Journal, JournalTo, JournalsTo, MaxEntries, MaxMemory, MaxStates, MaxTexts,
-    Out, Samples, Seed, To, Until, Workers,
+    All, File, FirstJournal, From, Journal, JournalTo, JournalsTo, MaxEntries, MaxMemory,
+    MaxStates, MaxTexts, Out, Samples, SecondJournal, Seed, To, Until, Workers,
 };
 
 /// What the command of a task takes, in the order in which help shows it.
@@ -23,5 +23,6 @@ pub fn parameters(task: CommandTask) -> &'static [Parameter]
         CommandTask::Check => &[File, All],
         CommandTask::Explain => &[File, Journal, From, To],
         CommandTask::Waves => &[File, Journal, Out],
+        CommandTask::Diff => &[File, FirstJournal, SecondJournal],
     }
 }

@@ -73,7 +73,7 @@ ran_so : (t : ExplanationOptions) (journal : List Entry) (x : Standing) (e : Eff
 ran_so t journal x e code ran = ap (λ (c : Compiled). run (design_of c) journal) (sym code) ∙ ran
 
 -- the entry is the one at its place
-same_entry : (journal : List Entry) (at : ℕ) (d entry : Entry) → at < length journal → slice_get journal at ≡ Some entry → slice_index_or journal at d ≡ entry
+pub same_entry : (journal : List Entry) (at : ℕ) (d entry : Entry) → at < length journal → slice_get journal at ≡ Some entry → slice_index_or journal at d ≡ entry
 same_entry journal at d entry inside there =
     let is : slice_get journal at ≡ Some (slice_index_or journal at d) = slice_get-get_or journal at d inside in
     cc

@@ -1,5 +1,6 @@
 pub mod Phrases
 pub mod EntryLines
+pub mod EntryText
 pub mod ExplainedEnd
 pub mod Explained
 pub mod ExplainedText

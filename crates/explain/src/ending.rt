@@ -63,11 +63,7 @@ fn push_state(text: &mut Vec<u8>, machine: &Machine<'_>, next: usize) -> Result<
 }
 
 /// Puts how a run stands behind a text: finished, quiet, or that it can go on.
-pub(crate) fn push_end(
-    alloc: Global,
-    text: &mut Vec<u8>,
-    machine: &Machine<'_>,
-) -> Result<(), AllocError>
+pub fn push_end(alloc: Global, text: &mut Vec<u8>, machine: &Machine<'_>) -> Result<(), AllocError>
     ensures { OnOk result (PutsEnd (state_at machine.now) machine.now.core.entries text.old.items text.new.items) }
 {
     let next = machine.next_entries(alloc)?;

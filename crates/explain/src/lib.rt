@@ -4,6 +4,7 @@
 //! 2. `lines` puts what is told into one line, `ending` how the run stands behind the last entry, or why an entry isn't lawful, by
 //!    its `cause`.
 //! 3. `explain` reads source and journal, takes all entries, and writes the lines of those in a window as they come.
+//! 4. `entry_text` puts the line of one entry behind a text.
 //!
 //! What the layer above uses: `explain`, which says by its answer whether the journal is lawful, and why not, and whose text is
 //! pinned whole by `specs/ExplainedText`.
@@ -11,11 +12,15 @@
 
 mod cause;
 mod ending;
+mod entry_text;
 mod failure;
 mod lines;
 mod phrases;
 mod telling;
 
 pub use cause::cause_code;
+pub use ending::push_end;
+pub use entry_text::push_entry_line;
 pub use failure::ExplainFault;
+pub use phrases::{SourceNames, push_labelled, push_register, push_value};
 pub use telling::{Window, explain};

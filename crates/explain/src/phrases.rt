@@ -28,7 +28,7 @@ pub(crate) fn push_number(text: &mut Vec<u8>, number: u64) -> Result<(), AllocEr
 }
 
 /// Puts a number behind a text, with what stands before it.
-pub(crate) fn push_labelled(text: &mut Vec<u8>, label: &[u8], number: u64) -> Result<(), AllocError>
+pub fn push_labelled(text: &mut Vec<u8>, label: &[u8], number: u64) -> Result<(), AllocError>
     ensures { OnOk result (text.new.items ≡ text.old.items ++ (label.now ++ decimal number)) }
 {
     text.extend_from_slice(label)?;
@@ -69,7 +69,7 @@ fn push_size(text: &mut Vec<u8>, width: u32) -> Result<(), AllocError>
 }
 
 /// Puts a value behind a text: one digit alone, and more of them as a sized binary literal (3.5.1).
-pub(crate) fn push_value(text: &mut Vec<u8>, value: Bits) -> Result<(), AllocError>
+pub fn push_value(text: &mut Vec<u8>, value: Bits) -> Result<(), AllocError>
     ensures { OnOk result (text.new.items ≡ text.old.items ++ value_text value) }
 {
     push_size(text, value.width())?;
@@ -120,7 +120,7 @@ fn name_of(design: &Design, register: RegId) -> &str
 }
 
 /// Puts the name of a register behind a text.
-pub(crate) fn push_register(
+pub fn push_register(
     text: &mut Vec<u8>,
     names: &SourceNames<'_>,
     register: RegId,

@@ -3,7 +3,7 @@ use Rattle.std.proofs.Common.{◌≡◌, ℕ, true, List, [], ◌∷◌, ◌++�
 use Rattle.std.specs.List.{All, Contains}
 use Rattle.std.specs.Global.{Vec}
 use Rattle.std.proofs.lemmas.List.{map-append}
-use Rattle.std.proofs.lemmas.List.Elements.{All-nil, All-cons, All-head, All-tail, All-push, All-weaker, All-contains}
+use Rattle.std.proofs.lemmas.List.Elements.{All-nil, All-cons, All-head, All-tail, All-push, All-weaker, All-contains, Contains-append_left, Contains-append_right}
 use Rattle.model.specs.declared.end.Limits.{Limits}
 use Rattle.model.specs.declared.end.Why.TheVariants.{Finish}
 use Rattle.model.specs.declared.end.End.{End}
@@ -26,10 +26,11 @@ use Rattle.runs.proofs.Halts.{only_long_turns_end}
 use Rattle.looseparts.specs.PartLaws.{CoverToEnds}
 use Rattle.looseparts.specs.EndingCover.{TellsWaysToEnds}
 use Rattle.looseparts.specs.FoundWays.{ways_in}
+use Rattle.looseparts.proofs.Lists.{contains_here, all_contained}
 use Rattle.looseparts.specs.declared.parts.CoveringWays.{CoveringWays}
 use Rattle.lawful.specs.Again.{HasTakenEach}
 use Rattle.lawful.specs.LooseNodes.{IsReadyNode, IsLooseWayOn, IsLooseWayToEnd, AreAllLooseWays, IsExpandedAt}
-use Rattle.lawful.specs.ByParts.{IsWithin, StandForAll, IsOnInTime, IsWayTaken, AreWaysTaken, moves_to_ends, IsFinishedAt, IsFinishedInTime, IsEndTaken, AreFollowed}
+use Rattle.lawful.specs.ByParts.{IsWithin, StandForAll, IsOnInTime, IsWayTaken, AreWaysTaken, moves_to_ends, IsFinishedAt, IsFinishedInTime, AreEndsOf, AreFollowed}
 use Rattle.lawful.specs.declared.node.LooseNode.{LooseNode}
 
 -- one way
@@ -49,23 +50,34 @@ way_taken class m copy new way next same none taken moves printed ready state =
           },
     )
 
-pub end_taken : (class : ℕ → ℕ) (code : Compiled) (s : State) (way : List LooseTransition) (next : Successor LooseNode LooseTransition) (ended : EndedPath LooseTransition End) → IsWayTaken class code s way next → IsFinishedAt next ended → IsEndTaken class code s way ended
-end_taken class code s way next ended (is_way, on) (finished, moves, printed, end) = (
-  moves ∙ is_way,
-  (
-    end,
-    λ limits timely.
-        let way = on limits (subst (AreTimelyMoves limits) moves timely) in
-        let over : way.effect.state.finished ≡ true = sym (ap (λ (s : State). s.finished) way.holds.state_is) ∙ finished in
-        let here : EndsHere (design_of code) limits way.effect (Stopped Finish) = ((λ e. cc), (λ e. cc), over) in
-        record {
-          effect = way.effect;
-          goes = subst (λ (l : List LooseTransition). GoesLooselyTo class (design_of code) limits s l way.effect) (sym moves) way.goes;
-          printed = printed ∙ way.printed;
-          here = subst (EndsHere (design_of code) limits way.effect) (sym end) here;
-        },
-  ),
+end_taken : (class : ℕ → ℕ) (code : Compiled) (s : State) (next : Successor LooseNode LooseTransition) (ended : EndedPath LooseTransition End) → IsOnInTime class code s next → IsFinishedAt next ended → IsFinishedInTime class code s ended
+end_taken class code s next ended on (finished, moves, printed, end) = (
+  end,
+  λ limits timely.
+      let way = on limits (subst (AreTimelyMoves limits) moves timely) in
+      let over : way.effect.state.finished ≡ true = sym (ap (λ (s : State). s.finished) way.holds.state_is) ∙ finished in
+      let here : EndsHere (design_of code) limits way.effect (Stopped Finish) = ((λ e. cc), (λ e. cc), over) in
+      record {
+        effect = way.effect;
+        goes = subst (λ (l : List LooseTransition). GoesLooselyTo class (design_of code) limits s l way.effect) (sym moves) way.goes;
+        printed = printed ∙ way.printed;
+        here = subst (EndsHere (design_of code) limits way.effect) (sym end) here;
+      },
 )
+
+-- one end more
+pub one_more_end : (xs : List (Successor LooseNode LooseTransition)) (next : Successor LooseNode LooseTransition) (ys more : List (EndedPath LooseTransition End)) (ended : EndedPath LooseTransition End) → more ≡ ys ++ ended ∷ [] → AreEndsOf xs ys → IsFinishedAt next ended → AreEndsOf (xs ++ next ∷ []) more
+one_more_end xs next ys more ended longer before at =
+    let both : moves_to_ends (ys ++ ended ∷ []) ≡ loose_ways_to (xs ++ next ∷ []) =
+    map-append (λ (path : EndedPath LooseTransition End). path.moves.items) ys (ended ∷ [])
+    ∙ (ap (λ l. l ++ ended.moves.items ∷ []) before.ways_are ∙ (ap (λ w. loose_ways_to xs ++ w ∷ []) at.1 ∙ sym (map-append (λ (next : Successor LooseNode LooseTransition). next.moves.items) xs (next ∷ [])))) in
+    record {
+      ways_are = ap moves_to_ends longer ∙ both;
+      to = λ class code s on.
+          let firsts : All (IsOnInTime class code s) xs = all_contained (IsOnInTime class code s) xs (xs ++ next ∷ []) (λ x there. Contains-append_left xs (next ∷ []) x there) on in
+          let last : IsOnInTime class code s next = All-contains (IsOnInTime class code s) (xs ++ next ∷ []) next on (Contains-append_right xs (next ∷ []) next (contains_here next [])) in
+          subst (All (IsFinishedInTime class code s)) (sym longer) (All-push (IsFinishedInTime class code s) ys ended (before.to class code s firsts) (end_taken class code s next ended last at));
+    }
 
 -- ways, one after another
 

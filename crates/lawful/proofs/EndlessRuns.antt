@@ -1,8 +1,5 @@
 -- The lawful journal of a loose run from which no run comes to an end.
-use Rattle.std.proofs.Common.{◌≡◌, ℕ, List, Option, Some, Result, sym, ap, ◌∙◌, subst}
-use Rattle.std.specs.Prelude.{IfOk, IfSome}
-use Rattle.std.proofs.lemmas.Option.{IfSome_then}
-use Rattle.std.proofs.lemmas.Result.{IfOk-weaker}
+use Rattle.std.proofs.Common.{◌≡◌, ℕ, List, Option, Some, sym, ap, ◌∙◌, subst}
 use Rattle.model.specs.declared.entry.Entry.{Entry}
 use Rattle.model.specs.declared.end.Limits.{Limits}
 use Rattle.model.specs.States.{State, start}
@@ -63,7 +60,3 @@ endless_if_alike class code limits journal moves m endless come of_code leads =
       within = come.few;
       never = λ more end (g, at_g, here). loose_endless_is_endless (HoldsEffect code) class design limits journal come.effect moves at.effect lawful come.timely at.comes led endless.never more g end at_g.0 at_g.1 here;
     }
-
--- what follows of what is found, where something is
-pub found_so : {X E : Type 0} (r : Result (Option X) E) (P Q : X → Type 0) → ((x : X) → P x → Q x) → IfOk r (λ o. IfSome o P) → IfOk r (λ o. IfSome o Q)
-found_so r P Q each found = IfOk-weaker r (λ o. IfSome o P) (λ o. IfSome o Q) (λ o some. IfSome_then o some each) found

@@ -1,7 +1,7 @@
 -- What an expansion comes to where a run halts.
 use Rattle.std.proofs.Common.{ℕ, ◌≡◌, ◌<◌, List, [], ◌∷◌, Result, Ok, Err, inl, refl, sym, ◌∙◌, subst, arith}
 use Rattle.std.specs.Prelude.{IfOk}
-use Rattle.std.specs.List.{All}
+use Rattle.std.specs.List.{All, Contains}
 use Rattle.std.proofs.lemmas.List.Elements.{All-nil, All-cons}
 use Rattle.model.specs.declared.end.Limits.{Limits}
 use Rattle.model.specs.declared.end.End.{End}
@@ -17,14 +17,15 @@ use Rattle.looseruns.specs.LooseCover.{FollowMoves, FollowLooseEntries}
 use Rattle.looseruns.specs.LooseGoing.{GoesLooselyTo}
 use Rattle.looseruns.proofs.LooseGoing.{no_move_stays}
 use Rattle.looseruns.proofs.LooseCovering.{entries_follow}
-use Rattle.runs.specs.Halting.{HaltsAt}
+use Rattle.loosesteps.specs.LooselyTaken.{MayBeTaken}
+use Rattle.runs.specs.Halting.{GoesOn, HaltsAt}
 use Rattle.explore.specs.declared.Successor.{Successor}
 use Rattle.explore.specs.declared.EndedPath.{EndedPath}
 use Rattle.explore.specs.declared.Expanded.{Expanded}
-use Rattle.lawful.specs.LooseNodes.{IsLooseWayOn, IsLooseWayToEnd, AreAllLooseWays, IsExpandedAt}
+use Rattle.lawful.specs.LooseNodes.{IsLooseWayOn, IsLooseWayToEnd, AreLooseWaysFor, AreAllLooseWays, IsExpandedAt}
 use Rattle.lawful.specs.declared.node.LooseNode.{LooseNode}
 use Rattle.lawful.proofs.LongTurns.{step_is_permitted_loosely, some_may_be_next}
-use Rattle.lawful.proofs.Ways.{followed_cover, covers_without_ends, none_to_tell}
+use Rattle.lawful.proofs.Ways.{all_followed, followed_cover, covers_without_ends, none_to_tell}
 
 -- the end of a run that halts, as what an expansion tells
 abbrev pub IsRested : End → List (EndedPath LooseTransition End) → Type 0
@@ -67,6 +68,16 @@ halted class code limits s end x order few halts rested none =
       nexts = subst (All (IsLooseWayOn class code limits s)) (sym none) (All-nil (IsLooseWayOn class code limits s));
       ends = halted_sound class code limits s end x.ended.items order few halts rested;
       all = λ whole. halted_all class code limits s end x.successors.items x.ended.items order halts rested none;
+    }
+
+-- what comes of following each transition that may be taken
+pub branched : (class : ℕ → ℕ) (code : Compiled) (limits : Limits) (s : State) (transitions : List LooseTransition) (x : Expanded LooseNode LooseTransition End) → IsInOrder s → GoesOn limits s
+    → ((transition : LooseTransition) → MayBeTaken class s transition → Contains transitions transition) → AreLooseWaysFor class code limits s transitions x.successors.items x.ended.items → IsExpandedAt class code limits s x
+branched class code limits s transitions x order on within ways =
+    record {
+      nexts = ways.nexts;
+      ends = ways.ends;
+      all = λ whole. all_followed class code limits s transitions x.successors.items x.ended.items order on within ways;
     }
 
 pub both_ok : {T E : Type 0} (r : Result T E) (P Q : T → Type 0) → IfOk r P → IfOk r Q → IfOk r (λ x. P x × Q x)

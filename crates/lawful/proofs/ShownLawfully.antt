@@ -1,13 +1,16 @@
 -- What is shown with lawful journals has the texts and the ends that loose runs showed.
-use Rattle.std.proofs.Common.{◌≡◌, ℕ, zero, suc, ◌<◌, List, [], ◌∷◌, ◌++◌, append_assoc, length, map, get_or, refl, sym, ap, ◌∙◌, subst, arith}
+use Rattle.std.proofs.Common.{◌≡◌, ℕ, zero, suc, ◌<◌, ◌≤◌, List, [], ◌∷◌, ◌++◌, length, map, get_or, refl, sym, ap, ◌∙◌, subst, arith}
 use Rattle.std.specs.List.{AllPairs, Any}
-use Rattle.std.proofs.lemmas.List.{length-map, append-nil, map-append}
+use Rattle.std.proofs.lemmas.List.Elements.{All-push}
+use Rattle.std.proofs.lemmas.List.{length-map, length-append, append-nil, map-append, get_or_append_left}
 use Rattle.model.specs.declared.entry.Entry.{Entry}
 use Rattle.model.specs.declared.end.End.{End}
 use Rattle.explore.specs.declared.Shown.{Shown}
 use Rattle.explore.specs.Search.{AreDistinct, IsShown}
 use Rattle.loose.specs.declared.transition.LooseTransition.{LooseTransition}
-use Rattle.lawful.specs.Journals.{texts_and_ends}
+use Rattle.model.specs.declared.end.Limits.{Limits}
+use Rattle.design.specs.Compiled.{Compiled}
+use Rattle.lawful.specs.Journals.{texts_and_ends, HasLawfulJournal, IsAddedLawfully, AreShownLawfully}
 
 -- lists that are mapped to one list have as many elements, and those at one place are mapped to one
 
@@ -57,14 +60,27 @@ still_shown loosely lawful text end same there =
     any_at pair pair (λ (p : List ℕ × End). (p.0 ≡ text) × (p.1 ≡ end)) loosely lawful (sym same) there
 
 -- one more has its journal
-pub one_more : (all : List (List ℕ × End)) (loosely : Shown LooseTransition End) (rest : List (Shown LooseTransition End)) (lawful : List (Shown Entry End)) (one : Shown Entry End) → one.text.items ≡ loosely.text.items → one.end ≡ loosely.end
-    → texts_and_ends lawful ++ texts_and_ends (loosely ∷ rest) ≡ all → texts_and_ends (lawful ++ one ∷ []) ++ texts_and_ends rest ≡ all
-one_more all loosely rest lawful one text end before =
-    let both : pair one ≡ pair loosely = ap (λ (t : List ℕ). (t, one.end)) text ∙ ap (λ (e : End). (loosely.text.items, e)) end in
-    ap (λ l. l ++ texts_and_ends rest) (map-append pair lawful (one ∷ []))
-    ∙ (append_assoc (texts_and_ends lawful) (pair one ∷ []) (texts_and_ends rest) ∙ (ap (λ p. texts_and_ends lawful ++ p ∷ texts_and_ends rest) both ∙ before))
+pub one_more : (code : Compiled) (limits : Limits) (done : List (Shown LooseTransition End)) (loosely : Shown LooseTransition End) (before after : List (Shown Entry End)) → AreShownLawfully code limits done before → IsAddedLawfully code limits before loosely after → AreShownLawfully code limits (done ++ loosely ∷ []) after
+one_more code limits done loosely before after shown (one, is, own) =
+    let both : pair one ≡ pair loosely = ap (λ (t : List ℕ). (t, one.end)) own.text ∙ ap (λ (e : End). (loosely.text.items, e)) own.end_is in
+    let same : texts_and_ends (before ++ one ∷ []) ≡ texts_and_ends (done ++ loosely ∷ []) =
+    map-append pair before (one ∷ []) ∙ (ap (λ l. l ++ pair one ∷ []) shown.same ∙ (ap (λ p. texts_and_ends done ++ p ∷ []) both ∙ sym (map-append pair done (loosely ∷ [])))) in
+    subst (AreShownLawfully code limits (done ++ loosely ∷ [])) (sym is)
+    (record { same = same; journals = All-push (HasLawfulJournal code limits) before one shown.journals own.journal })
 
--- none is left
-pub no_more : (all : List (List ℕ × End)) (rest : List (Shown LooseTransition End)) (lawful : List (Shown Entry End)) → rest ≡ [] → texts_and_ends lawful ++ texts_and_ends rest ≡ all → texts_and_ends lawful ≡ all
-no_more all rest lawful none before =
-    sym (append-nil (texts_and_ends lawful)) ∙ (ap (λ (l : List (Shown LooseTransition End)). texts_and_ends lawful ++ texts_and_ends l) (sym none) ∙ before)
+-- what no two elements have in common, no two of a first part have
+pub first_distinct : (part rest whole : List (Shown LooseTransition End)) → part ++ rest ≡ whole → AllPairs AreDistinct whole → AllPairs AreDistinct part
+first_distinct part rest whole split distinct i j d less within =
+    let both : AllPairs AreDistinct (part ++ rest) = subst (AllPairs AreDistinct) (sym split) distinct in
+    let longer : j < length (part ++ rest) = omega (arith, within, length-append part rest) in
+    let at_i : get_or (part ++ rest) i d ≡ get_or part i d = get_or_append_left part rest d i (omega (arith, less, within)) in
+    let at_j : get_or (part ++ rest) j d ≡ get_or part j d = get_or_append_left part rest d j within in
+    subst (λ x. AreDistinct (get_or part i d) x) at_j (subst (λ x. AreDistinct x (get_or (part ++ rest) j d)) at_i (both i j d less longer))
+
+pub no_longer : (part rest whole : List (Shown LooseTransition End)) → part ++ rest ≡ whole → length part ≤ length whole
+no_longer part rest whole split =
+    let longer : length (part ++ rest) ≡ length whole = ap length split in
+    omega (arith, length-append part rest, longer)
+
+pub is_whole : (part rest whole : List (Shown LooseTransition End)) → part ++ rest ≡ whole → rest ≡ [] → part ≡ whole
+is_whole part rest whole split none = sym (append-nil part) ∙ (ap (λ l. part ++ l) (sym none) ∙ split)

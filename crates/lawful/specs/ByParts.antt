@@ -60,9 +60,11 @@ abbrev pub IsFinishedInTime : (ℕ → ℕ) → Compiled → State → EndedPath
 IsFinishedInTime class code s ended =
     (ended.end ≡ Stopped Finish) × ((limits : Limits) → AreTimelyMoves limits ended.moves.items → IsLooseWayToEnd class code limits s ended)
 
--- a way was taken from a state to where the run has finished
-abbrev pub IsEndTaken : (ℕ → ℕ) → Compiled → State → List LooseTransition → EndedPath LooseTransition End → Type 0
-IsEndTaken class code s way ended = (ended.moves.items ≡ way) × IsFinishedInTime class code s ended
+-- The runs have finished at these successors, and these are the ways to those ends: the same ways, and each to an end, from whatever state they
+-- lead on in time.
+pub record AreEndsOf (successors : List (Successor LooseNode LooseTransition)) (ended : List (EndedPath LooseTransition End)) : Type 0 where
+  pub ways_are : moves_to_ends ended ≡ loose_ways_to successors
+  pub to : (class : ℕ → ℕ) (code : Compiled) (s : State) → All (IsOnInTime class code s) successors → All (IsFinishedInTime class code s) ended
 
 -- ways were taken from a state to where the run has finished
 pub record AreEndsTaken (class : ℕ → ℕ) (code : Compiled) (s : State) (ways : List (List LooseTransition)) (ended : List (EndedPath LooseTransition End)) : Type 0 where

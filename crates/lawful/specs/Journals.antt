@@ -1,5 +1,5 @@
 -- The lawful journals of what a search of loose runs shows.
-use Rattle.std.specs.Prelude.{◌≡◌, ℕ, List, map, IfSome}
+use Rattle.std.specs.Prelude.{◌≡◌, ◌⊎◌, ℕ, Bool, true, List, [], ◌∷◌, ◌++◌, map, Option, None, Some, IfSome}
 use Rattle.std.specs.List.{All}
 use Rattle.model.specs.declared.entry.Entry.{Entry}
 use Rattle.model.specs.declared.end.Limits.{Limits}
@@ -8,6 +8,8 @@ use Rattle.model.specs.Texts.{IsEndlessJournal}
 use Rattle.design.specs.Compiled.{Compiled, design_of}
 use Rattle.explore.specs.declared.Explored.{Explored}
 use Rattle.explore.specs.declared.Shown.{Shown}
+use Rattle.explore.specs.declared.stopped.Stopped.{Stopped}
+use Rattle.explore.specs.declared.stopped.Stopped.TheVariants as stop
 use Rattle.loose.specs.declared.transition.LooseTransition.{LooseTransition}
 use Rattle.loosejournals.specs.FoundJournals.{IsJournalOf}
 
@@ -30,10 +32,39 @@ pub record AreShownLawfully (code : Compiled) (limits : Limits) (shown : List (S
   pub same : texts_and_ends lawful ≡ texts_and_ends shown
   pub journals : All (HasLawfulJournal code limits) lawful
 
--- A search found the same texts and ends, with a lawful journal of each, in as many nodes, and it stopped for the same reason. A journal
--- from which no run is said to come to an end is such a lawful one.
+-- a text and an end were added with a lawful journal of them
+abbrev pub IsAddedLawfully : Compiled → Limits → List (Shown Entry End) → Shown LooseTransition End → List (Shown Entry End) → Type 0
+IsAddedLawfully code limits before loosely after =
+    (lawful : Shown Entry End) × (after ≡ before ++ lawful ∷ []) × IsShownLawfully code limits loosely lawful
+
+-- The same texts and ends are shown as in a first part of what loose runs show, with a lawful journal of each. Where nothing was left out,
+-- that part is the whole.
+pub record AreFirstShownLawfully (code : Compiled) (limits : Limits) (shown : List (Shown LooseTransition End)) (lawful : List (Shown Entry End)) (whole : Bool) : Type 0 where
+  pub part : List (Shown LooseTransition End)
+  pub rest : List (Shown LooseTransition End)
+  pub split : part ++ rest ≡ shown
+  pub all : whole ≡ true → rest ≡ []
+  pub shown_is : AreShownLawfully code limits part lawful
+
+-- why a search stopped that lacks journals for want of memory: that, if it had no other reason but the most texts
+abbrev pub memory_or : Option Stopped → Option Stopped
+memory_or None = Some stop.Memory
+memory_or (Some stop.Shown) = Some stop.Memory
+memory_or (Some stop.Nodes) = Some stop.Nodes
+memory_or (Some stop.Unfollowed) = Some stop.Unfollowed
+memory_or (Some stop.Bytes) = Some stop.Bytes
+memory_or (Some stop.Memory) = Some stop.Memory
+
+-- why a search stopped, where all its runs have their journals and where some lack them
+abbrev pub IsStoppedBy : Option Stopped → Bool → Option Stopped → Type 0
+IsStoppedBy before whole stopped = ((whole ≡ true) × (stopped ≡ before)) ⊎ (stopped ≡ memory_or before)
+
+-- A search found the same texts and ends, or the first of them, with a lawful journal of each, in as many nodes. It stopped for the same
+-- reason where none was left out. A journal from which no run is said to come to an end is such a lawful one.
 pub record IsFoundLawfully (code : Compiled) (limits : Limits) (loosely : Explored LooseTransition End) (lawful : Explored Entry End) : Type 0 where
-  pub shown_is : AreShownLawfully code limits loosely.shown.items lawful.shown.items
-  pub stopped_is : lawful.stopped ≡ loosely.stopped
+  -- whether none was left out
+  pub whole : Bool
+  pub shown_is : AreFirstShownLawfully code limits loosely.shown.items lawful.shown.items whole
+  pub stopped_is : IsStoppedBy loosely.stopped whole lawful.stopped
   pub nodes_are : lawful.nodes ≡ loosely.nodes
   pub never_ends : IfSome lawful.endless (λ journal. IsEndlessJournal (design_of code) limits journal.items)

@@ -5,7 +5,7 @@ ghost use Rattle.loose.specs.Classes.{class_in};
 ghost use Rattle.regions.specs.Machine.{state_at};
 ghost use Rattle.lawful.specs.Again.{HasGoneAgain, HasTakenEach};
 
-use crate::node::SearchRoom;
+use crate::search_room::SearchRoom;
 use loose::transition::LooseTransition;
 use loosesteps::take_loosely;
 use loosewalks::copy_of;
@@ -51,24 +51,6 @@ pub(crate) fn weight(machine: &Machine<'_>) -> usize {
         )
 }
 
-// Takes transitions, one after another.
-fn take_each(
-    machine: &mut Machine<'_>,
-    classes: &[u32],
-    moves: &[LooseTransition],
-) -> Result<(), AllocError>
-    requires { IsInOrder (state_at machine.old) }
-    ensures { OnOk result (HasTakenEach (class_in classes.now) machine.old moves.now machine.new) }
-{
-    for transition in moves {
-        match take_loosely(machine, classes, *transition) {
-            Ok(()) => {}
-            Err(_) => return Err(AllocError),
-        }
-    }
-    Ok(())
-}
-
 /// Takes transitions, one after another, with a log that the machine is lent. Fails where one of them isn't taken.
 pub(crate) fn take_all(
     log: &mut TurnLog,
@@ -80,9 +62,17 @@ pub(crate) fn take_all(
     ensures { OnOk result (HasTakenEach (class_in classes.now) machine.old moves.now machine.new) }
 {
     machine.exchange_log(log);
-    let taken = take_each(machine, classes, moves);
+    for transition in moves {
+        match take_loosely(machine, classes, *transition) {
+            Ok(()) => {}
+            Err(_) => {
+                machine.exchange_log(log);
+                return Err(AllocError);
+            }
+        }
+    }
     machine.exchange_log(log);
-    taken
+    Ok(())
 }
 
 // Takes transitions, and drops their lines.

@@ -7,7 +7,7 @@ ghost use Rattle.loose.specs.Classes.{class_in};
 ghost use Rattle.looseruns.specs.LooseMoves.{AreTimelyMoves, IsTimelyMove};
 ghost use Rattle.looseparts.specs.FoundWays.{ways_in};
 ghost use Rattle.regions.specs.Machine.{state_at};
-ghost use Rattle.lawful.specs.ByParts.{AreEndsTaken, AreFollowed, AreWaysTaken, IsFinishedAt, IsWayTaken, IsWithin, StandForAll};
+ghost use Rattle.lawful.specs.ByParts.{AreEndsOf, AreFollowed, AreWaysTaken, IsFinishedAt, IsWayTaken, IsWithin, StandForAll};
 
 use crate::again::take_all;
 use crate::node::{LooseNode, next_of};
@@ -169,23 +169,16 @@ fn end_of(
     })
 }
 
-// Goes each of these ways to where the run has finished, with copies of a machine.
-fn go_to_ends<'d>(
+// The ends of runs at nodes where they have finished.
+fn ends_of(
     alloc: Global,
-    classes: &[u32],
-    log: &mut TurnLog,
-    machine: &Machine<'d>,
-    ways: Vec<Vec<LooseTransition>>,
+    finished: Vec<Successor<LooseNode<'_>, LooseTransition>>,
 ) -> Result<Vec<EndedPath<LooseTransition, End>>, AllocError>
-    requires order { IsInOrder (state_at machine.now) }
-    requires silent { machine.now.lines ≡ [] }
-    ensures { IfOk result (λ ended. AreEndsTaken (class_in classes.now) machine.now.code (state_at machine.now) (ways_in ways.items) ended.items) }
+    ensures { IfOk result (λ ended. AreEndsOf finished.entry.items ended.items) }
 {
     let mut ended = Vec::new(alloc);
-    for way in ways {
-        let copy = copy_of(alloc, machine)?;
-        let successor = go_way(classes, log, copy, way)?;
-        let end = end_of(successor)?;
+    for next in finished {
+        let end = end_of(next)?;
         ended.push(end)?;
     }
     Ok(ended)
@@ -204,7 +197,8 @@ pub(crate) fn follow_parts<'d>(
     ensures { IfOk result (λ x. AreFollowed (class_in classes.now) machine.entry.value.code (state_at machine.entry.value) found x.successors.items x.ended.items) }
 {
     let CoveringWays { ways, ends } = found;
-    let ended = go_to_ends(alloc, classes, log, &machine, ends)?;
+    let finished = go_each(alloc, classes, log, &machine, ends)?;
+    let ended = ends_of(alloc, finished)?;
     let successors = go_all(alloc, classes, log, machine, ways)?;
     Ok(Expanded {
         successors,

@@ -11,12 +11,10 @@ ghost use Rattle.lawful.specs.Again.{LeadLooselyTo};
 ghost use Rattle.lawful.specs.LooseNodes.{searched_runs};
 
 use crate::again::again;
-use crate::node::SearchRoom;
 use crate::search::start_of;
-use design::Design;
+use crate::search_room::SearchRoom;
 use loose::transition::LooseTransition;
-use loosejournals::{LedJournal, journal_to};
-use model::end::Limits;
+use loosejournals::{LeadScope, lead};
 use model::entry::Entry;
 use regions::Machine;
 use std::alloc::{AllocError, Global};
@@ -44,42 +42,37 @@ fn stand_alike(
 // Whether a machine stands where these loose transitions lead from the start of its design's run, up to the order of updates of different
 // classes.
 fn stands_there(
-    alloc: Global,
-    design: &Design,
-    classes: &[u32],
+    scope: LeadScope<'_>,
     moves: &[LooseTransition],
     machine: &Machine<'_>,
 ) -> Result<bool, AllocError>
-    requires code { machine.now.code ≡ design.now }
-    ensures { IfOk result (λ there. there ≡ true → LeadLooselyTo (class_in classes.now) design.now moves.now (state_at machine.now)) }
+    requires code { machine.now.code ≡ scope.design.now }
+    ensures { IfOk result (λ there. there ≡ true → LeadLooselyTo (class_in scope.entry.classes.now) scope.entry.design.now moves.now (state_at machine.now)) }
 {
+    let alloc = scope.alloc;
     let mut room = Box::new(alloc, SearchRoom::new(alloc))?;
-    let start = start_of(alloc, design)?;
-    let loosely = again(alloc, &mut room, &start, classes, moves)?;
-    stand_alike(alloc, &mut room, machine, &loosely, classes)
+    let start = start_of(alloc, scope.design)?;
+    let loosely = again(alloc, &mut room, &start, scope.classes, moves)?;
+    stand_alike(alloc, &mut room, machine, &loosely, scope.classes)
 }
 
 /// A lawful journal from which no run comes to an end, as none does from a loose run of these transitions: it is led by them, and leads
 /// where they lead, up to the order of updates of different classes. None where it leads elsewhere, or none is led. Fails where memory is
 /// refused.
 pub(crate) fn endless_journal(
-    alloc: Global,
-    design: &Design,
-    limits: Limits,
-    classes: &[u32],
+    scope: LeadScope<'_>,
     moves: &[LooseTransition],
 ) -> Result<Option<Vec<Entry>>, AllocError>
-    requires until { IfSome limits.until (λ until. until ≤ last_time) }
-    requires endless { IsEndless (searched_runs design.now (class_in classes.now) limits) moves.now }
-    ensures { IfOk result (λ found. IfSome found (λ journal. IsEndlessJournal (design_of design.now) limits journal.items)) }
+    requires until { IfSome scope.limits.until (λ until. until ≤ last_time) }
+    requires endless { IsEndless (searched_runs scope.design.now (class_in scope.classes.now) scope.limits) moves.now }
+    ensures { IfOk result (λ found. IfSome found (λ journal. IsEndlessJournal (design_of scope.entry.design.now) scope.entry.limits journal.items)) }
 {
-    let led = match journal_to(alloc, design, limits, classes, moves)? {
+    let mut led = match lead(scope, moves)? {
         Some(led) => led,
         None => return Ok(None),
     };
-    if !stands_there(alloc, design, classes, moves, &led.machine)? {
+    if !stands_there(scope, moves, &led.machine)? {
         return Ok(None);
     }
-    let LedJournal { journal, .. } = led;
-    Ok(Some(journal))
+    Ok(Some(led.take_journal(scope.alloc)))
 }

@@ -1,13 +1,12 @@
 //! The loose runs that go on from a node: one way that stands for all, or ways by parts that do, or each transition that may be taken, and
 //! the ends that a run may have there.
-ghost use Rattle.std.specs.Prelude.{◌≡◌, ◌↔◌, ◌<◌, [], ◌∷◌, IfOk, IfErr, OnOk, IsTrue};
+ghost use Rattle.std.specs.Prelude.{◌≡◌, ◌↔◌, ◌<◌, [], ◌∷◌, IfOk, OnOk, IsTrue};
 ghost use Rattle.model.specs.declared.end.End.{End};
 ghost use Rattle.explore.specs.declared.EndedPath.{EndedPath};
 ghost use Rattle.orders.specs.Alike.{IsInOrder};
 ghost use Rattle.loose.specs.declared.transition.LooseTransition.{LooseTransition};
 ghost use Rattle.loose.specs.declared.transition.LooseTransition.TheVariants as transitions;
 ghost use Rattle.loose.specs.Classes.{class_in};
-ghost use Rattle.loosesteps.specs.LooselyTaken.{IsTakenLoosely, IsNotTakenLoosely};
 ghost use Rattle.looseruns.specs.LooseMoves.{IsTimelyMove};
 ghost use Rattle.regions.specs.Machine.{state_at};
 ghost use Rattle.regions.specs.declared.machine.TakeFault.TheVariants as faults;
@@ -18,7 +17,8 @@ ghost use Rattle.lawful.specs.Following.{IsAdded, IsArrived, IsWayBy, TellsTurn}
 ghost use Rattle.lawful.specs.LooseNodes.{AreBounded, AreLooseWaysFor, IsExpandedAt, MayGoOn};
 
 use crate::by_parts::{follow_parts, parts_within};
-use crate::node::{LooseNode, SearchRoom, next_of};
+use crate::node::{LooseNode, next_of};
+use crate::search_room::SearchRoom;
 use explore::{EndedPath, Expanded, Successor};
 use loose::transition::LooseTransition;
 use loosesteps::{loose_choices, take_loosely};
@@ -29,6 +29,14 @@ use runs::halting::{end_at, is_timely};
 use settling::AnalyzedDesign;
 use std::alloc::{AllocError, Global};
 use turn::TurnLog;
+
+/// By what the ways from a node are followed: the classes of the registers, and the limits of a run.
+#[derive(Clone, Copy)]
+pub(crate) struct ExpandScope<'a> {
+    pub(crate) alloc: Global,
+    pub(crate) classes: &'a [u32],
+    pub(crate) limits: Limits,
+}
 
 /// What one transition leads to.
 #[derive(Drop)]
@@ -41,12 +49,8 @@ pub(crate) enum Way<'d> {
     Past,
 }
 
-/// What following the transitions from a node has come to.
-#[derive(Drop)]
-pub(crate) struct Ways<'d> {
-    successors: Vec<Successor<LooseNode<'d>, LooseTransition>>,
-    ended: Vec<EndedPath<LooseTransition, End>>,
-}
+/// What following the ways from a node has come to.
+pub(crate) type LooseWays<'d> = Expanded<LooseNode<'d>, LooseTransition, End>;
 
 // One transition alone.
 fn one(alloc: Global, transition: LooseTransition) -> Result<Vec<LooseTransition>, AllocError>
@@ -97,55 +101,37 @@ fn long_of(
     }
 }
 
-// Takes a transition with a log that the machine is lent: each node takes just a few, and needs none of its own.
-fn take_with(
-    log: &mut TurnLog,
-    machine: &mut Machine<'_>,
-    classes: &[u32],
-    transition: LooseTransition,
-) -> Result<(), TakeFault>
-    requires { IsInOrder (state_at machine.old) }
-    ensures taken { OnOk result (IsTakenLoosely (class_in classes.now) machine.old.code (state_at machine.old) machine.old.lines transition (state_at machine.new) machine.new.lines) }
-    ensures stop { IfErr result (IsNotTakenLoosely (class_in classes.now) machine.old transition) }
-    ensures order { IsInOrder (state_at machine.new) }
-    ensures code { machine.new.code ≡ machine.old.code }
-{
-    machine.exchange_log(log);
-    let taken = take_loosely(machine, classes, transition);
-    machine.exchange_log(log);
-    taken
-}
-
-// Follows a transition with this machine.
+// Follows a transition with this machine, which is lent a log for it: each node takes just a few, and needs none of its own.
 fn way_by<'d>(
-    alloc: Global,
-    classes: &[u32],
-    limits: Limits,
+    scope: ExpandScope<'_>,
     log: &mut TurnLog,
     machine: Box<Machine<'d>>,
     transition: LooseTransition,
 ) -> Result<Way<'d>, AllocError>
     requires order { IsInOrder (state_at machine.value) }
     requires silent { machine.value.lines ≡ [] }
-    requires some_entry { 0 < limits.max_entries }
-    ensures { IfOk result (IsWayBy (class_in classes.now) machine.entry.value.code limits (state_at machine.entry.value) transition) }
+    requires some_entry { 0 < scope.limits.max_entries }
+    ensures { IfOk result (IsWayBy (class_in scope.entry.classes.now) machine.entry.value.code scope.entry.limits (state_at machine.entry.value) transition) }
 {
-    if !is_timely_move(limits, transition) {
+    if !is_timely_move(scope.limits, transition) {
         return Ok(Way::Past);
     }
-    let moves = one(alloc, transition)?;
+    let moves = one(scope.alloc, transition)?;
     let mut machine = machine;
-    match take_with(log, &mut machine, classes, transition) {
+    machine.exchange_log(log);
+    let taken = take_loosely(&mut machine, scope.classes, transition);
+    machine.exchange_log(log);
+    match taken {
         Ok(()) => Ok(Way::On(next_of(machine, moves))),
         Err(fault) => {
-            let ended = long_of(alloc, transition, fault)?;
+            let ended = long_of(scope.alloc, transition, fault)?;
             Ok(Way::Long(ended))
         }
     }
 }
 
 // Adds a way to those that were found.
-fn add<'d>(ways: &mut Ways<'d>, way: Way<'d>) -> Result<(), AllocError>
+fn add<'d>(ways: &mut LooseWays<'d>, way: Way<'d>) -> Result<(), AllocError>
     ensures { OnOk result (IsAdded way.entry ways.old.successors.items ways.old.ended.items ways.new.successors.items ways.new.ended.items) }
 {
     match way {
@@ -158,25 +144,24 @@ fn add<'d>(ways: &mut Ways<'d>, way: Way<'d>) -> Result<(), AllocError>
 
 // Follows each of these transitions with copies of a machine.
 fn follow_each<'d>(
-    alloc: Global,
-    classes: &[u32],
-    limits: Limits,
+    scope: ExpandScope<'_>,
     log: &mut TurnLog,
     machine: &Machine<'d>,
     transitions: &[LooseTransition],
-) -> Result<Ways<'d>, AllocError>
+) -> Result<LooseWays<'d>, AllocError>
     requires order { IsInOrder (state_at machine.now) }
     requires silent { machine.now.lines ≡ [] }
-    requires some_entry { 0 < limits.max_entries }
-    ensures { IfOk result (λ ways. AreLooseWaysFor (class_in classes.now) machine.now.code limits (state_at machine.now) transitions.now ways.successors.items ways.ended.items) }
+    requires some_entry { 0 < scope.limits.max_entries }
+    ensures { IfOk result (λ ways. AreLooseWaysFor (class_in scope.entry.classes.now) machine.now.code scope.entry.limits (state_at machine.now) transitions.now ways.successors.items ways.ended.items) }
 {
-    let mut ways = Ways {
-        successors: Vec::new(alloc),
-        ended: Vec::new(alloc),
+    let mut ways = Expanded {
+        successors: Vec::new(scope.alloc),
+        ended: Vec::new(scope.alloc),
+        whole: true,
     };
     for transition in transitions {
-        let copy = copy_of(alloc, machine)?;
-        let way = way_by(alloc, classes, limits, log, copy, *transition)?;
+        let copy = copy_of(scope.alloc, machine)?;
+        let way = way_by(scope, log, copy, *transition)?;
         add(&mut ways, way)?;
     }
     Ok(ways)
@@ -184,34 +169,29 @@ fn follow_each<'d>(
 
 // Follows each of these transitions: the last of them with the machine itself.
 fn follow_all<'d>(
-    alloc: Global,
-    classes: &[u32],
-    limits: Limits,
+    scope: ExpandScope<'_>,
     log: &mut TurnLog,
     machine: Box<Machine<'d>>,
     transitions: &[LooseTransition],
-) -> Result<Ways<'d>, AllocError>
+) -> Result<LooseWays<'d>, AllocError>
     requires order { IsInOrder (state_at machine.value) }
     requires silent { machine.value.lines ≡ [] }
-    requires some_entry { 0 < limits.max_entries }
-    ensures { IfOk result (λ ways. AreLooseWaysFor (class_in classes.now) machine.entry.value.code limits (state_at machine.entry.value) transitions.now ways.successors.items ways.ended.items) }
+    requires some_entry { 0 < scope.limits.max_entries }
+    ensures { IfOk result (λ ways. AreLooseWaysFor (class_in scope.entry.classes.now) machine.entry.value.code scope.entry.limits (state_at machine.entry.value) transitions.now ways.successors.items ways.ended.items) }
 {
     match transitions.split_last() {
         Some((last, others)) => {
-            let mut ways = follow_each(alloc, classes, limits, log, &machine, others)?;
-            let way = way_by(alloc, classes, limits, log, machine, *last)?;
+            let mut ways = follow_each(scope, log, &machine, others)?;
+            let way = way_by(scope, log, machine, *last)?;
             add(&mut ways, way)?;
             Ok(ways)
         }
-        None => follow_each(alloc, classes, limits, log, &machine, transitions),
+        None => follow_each(scope, log, &machine, transitions),
     }
 }
 
 // A run may have this end here, and goes on in no way.
-fn halts<'d>(
-    alloc: Global,
-    end: End,
-) -> Result<Expanded<LooseNode<'d>, LooseTransition, End>, AllocError>
+fn halts<'d>(alloc: Global, end: End) -> Result<LooseWays<'d>, AllocError>
     ensures one { IfOk result (λ x. (ended : EndedPath LooseTransition End) × (x.ended.items ≡ ended ∷ []) × (ended.end ≡ end) × (ended.printed.items ≡ []) × (ended.moves.items ≡ [])) }
     ensures none { IfOk result (λ x. x.successors.items ≡ []) }
 {
@@ -230,72 +210,43 @@ fn halts<'d>(
 
 // Follows each transition that may be taken, and none where the run has as many entries as it may have.
 fn branch<'d>(
-    alloc: Global,
-    classes: &[u32],
-    limits: Limits,
+    scope: ExpandScope<'_>,
     log: &mut TurnLog,
     machine: Box<Machine<'d>>,
-) -> Result<Expanded<LooseNode<'d>, LooseTransition, End>, AllocError>
-    requires { MayGoOn limits machine.value }
-    ensures { IfOk result (IsExpandedAt (class_in classes.now) machine.entry.value.code limits (state_at machine.entry.value)) }
+) -> Result<LooseWays<'d>, AllocError>
+    requires { MayGoOn scope.limits machine.value }
+    ensures { IfOk result (IsExpandedAt (class_in scope.entry.classes.now) machine.entry.value.code scope.entry.limits (state_at machine.entry.value)) }
 {
-    if machine.state().entries() >= u64::from(limits.max_entries) {
+    if machine.state().entries() >= u64::from(scope.limits.max_entries) {
         return Ok(Expanded {
-            successors: Vec::new(alloc),
-            ended: Vec::new(alloc),
+            successors: Vec::new(scope.alloc),
+            ended: Vec::new(scope.alloc),
             whole: false,
         });
     }
-    let transitions = loose_choices(alloc, &machine, classes)?;
-    let Ways { successors, ended } = follow_all(
-        alloc,
-        classes,
-        limits,
-        log,
-        machine,
-        &transitions,
-    )?;
-    Ok(Expanded {
-        successors,
-        ended,
-        whole: true,
-    })
+    let transitions = loose_choices(scope.alloc, &machine, scope.classes)?;
+    follow_all(scope, log, machine, &transitions)
 }
 
-// Follows ways by parts where they stand for all, and else each transition that may be taken.
-fn go_on<'d>(
-    alloc: Global,
-    classes: &[u32],
-    limits: Limits,
-    room: &mut SearchRoom,
-    machine: Box<Machine<'d>>,
-) -> Result<Expanded<LooseNode<'d>, LooseTransition, End>, AllocError>
-    requires { MayGoOn limits machine.value }
-    ensures { IfOk result (IsExpandedAt (class_in classes.now) machine.entry.value.code limits (state_at machine.entry.value)) }
-{
-    match parts_within(&mut room.parts, classes, limits, &machine)? {
-        Some(found) => follow_parts(alloc, classes, &mut room.log, machine, found),
-        None => branch(alloc, classes, limits, &mut room.log, machine),
-    }
-}
-
-// Follows the ways from where a machine stands, or tells the end that a run has there. Ways are left out where the run has as many entries
-// as it may have, and goes on from there: no way leads past that.
+// Follows ways by parts from where a machine stands, where these stand for all, and else each transition that may be taken; or tells the
+// end that a run has there. Ways are left out where the run has as many entries as it may have, and goes on from there: no way leads past
+// that.
 fn follow<'d>(
-    alloc: Global,
-    classes: &[u32],
-    limits: Limits,
+    scope: ExpandScope<'_>,
     room: &mut SearchRoom,
     machine: Box<Machine<'d>>,
-) -> Result<Expanded<LooseNode<'d>, LooseTransition, End>, AllocError>
+) -> Result<LooseWays<'d>, AllocError>
     requires order { IsInOrder (state_at machine.value) }
     requires silent { machine.value.lines ≡ [] }
-    requires bounded { AreBounded limits }
-    ensures { IfOk result (IsExpandedAt (class_in classes.now) machine.entry.value.code limits (state_at machine.entry.value)) }
+    requires bounded { AreBounded scope.limits }
+    ensures { IfOk result (IsExpandedAt (class_in scope.entry.classes.now) machine.entry.value.code scope.entry.limits (state_at machine.entry.value)) }
 {
-    match end_at(limits, &machine) {
-        Some(end) => halts(alloc, end),
-        None => go_on(alloc, classes, limits, room, machine),
+    if let Some(end) = end_at(scope.limits, &machine) {
+        return halts(scope.alloc, end);
+    }
+    match parts_within(&mut room.parts, scope.classes, scope.limits, &machine)? {
+        Some(found) => follow_parts(scope.alloc, scope.classes, &mut room.log, machine, found),
+        None => branch(scope, &mut room.log, machine),
     }
 }
 
@@ -304,7 +255,7 @@ fn arrive<'d>(
     alloc: Global,
     machine: Box<Machine<'d>>,
     moves: Vec<LooseTransition>,
-) -> Result<Expanded<LooseNode<'d>, LooseTransition, End>, AllocError>
+) -> Result<LooseWays<'d>, AllocError>
     ensures one { IfOk result (λ x. IsArrived machine.entry.value moves.items x.successors.items) }
     ensures none { IfOk result (λ x. x.ended.items ≡ []) }
 {
@@ -320,28 +271,26 @@ fn arrive<'d>(
 
 // Goes on from where a machine stands as long as one way stands for all, with a log that is kept. A finished one goes nowhere.
 fn walk_with(
-    alloc: Global,
+    scope: ExpandScope<'_>,
     analyzed_design: &AnalyzedDesign<'_>,
-    classes: &[u32],
-    limits: Limits,
     room: &mut SearchRoom,
     machine: &mut Machine<'_>,
 ) -> Result<Vec<LooseTransition>, AllocError>
     requires code { machine.old.code ≡ analyzed_design.now }
     requires silent { machine.old.lines ≡ [] }
-    requires reached { IsLikeReached (class_in classes.now) (design_of machine.old.code) (state_at machine.old) }
-    ensures walked { IfOk result (λ moves. HasWalkedLoosely (class_in classes.now) limits (state_at machine.old) machine.new moves.items) }
+    requires reached { IsLikeReached (class_in scope.classes.now) (design_of machine.old.code) (state_at machine.old) }
+    ensures walked { IfOk result (λ moves. HasWalkedLoosely (class_in scope.entry.classes.now) scope.entry.limits (state_at machine.old) machine.new moves.items) }
     ensures code { machine.new.code ≡ machine.old.code }
 {
     if machine.is_finished() {
-        return Ok(Vec::new(alloc));
+        return Ok(Vec::new(scope.alloc));
     }
     machine.exchange_log(&mut room.log);
     let walked = walk_loosely(
-        alloc,
+        scope.alloc,
         analyzed_design,
-        classes,
-        limits,
+        scope.classes,
+        scope.limits,
         &mut room.walk,
         machine,
     );
@@ -349,29 +298,26 @@ fn walk_with(
     walked
 }
 
-/// Follows each way from where a machine stands, by these classes of the registers. Where one way stands for all it goes on by that, up to
-/// the next choice or for some hundred steps; else by ways of parts that are apart, where these stand for all; else it follows each loose
-/// transition that may be taken. Ways are left out where the run has as many entries as it may have, and goes on from there: no way leads
-/// past that.
+/// Follows each way from where a machine stands. Where one way stands for all it goes on by that, up to the next choice or for some hundred
+/// steps; else by ways of parts that are apart, where these stand for all; else it follows each loose transition that may be taken. Ways are
+/// left out where the run has as many entries as it may have, and goes on from there: no way leads past that.
 pub(crate) fn expand<'d>(
-    alloc: Global,
+    scope: ExpandScope<'_>,
     analyzed_design: &AnalyzedDesign<'_>,
-    classes: &[u32],
-    limits: Limits,
     room: &mut SearchRoom,
     machine: Box<Machine<'d>>,
-) -> Result<Expanded<LooseNode<'d>, LooseTransition, End>, AllocError>
+) -> Result<LooseWays<'d>, AllocError>
     requires code { machine.value.code ≡ analyzed_design.now }
     requires silent { machine.value.lines ≡ [] }
-    requires reached { IsLikeReached (class_in classes.now) (design_of machine.value.code) (state_at machine.value) }
-    requires bounded { AreBounded limits }
-    ensures { IfOk result (IsExpandedAt (class_in classes.now) machine.entry.value.code limits (state_at machine.entry.value)) }
+    requires reached { IsLikeReached (class_in scope.classes.now) (design_of machine.value.code) (state_at machine.value) }
+    requires bounded { AreBounded scope.limits }
+    ensures { IfOk result (IsExpandedAt (class_in scope.entry.classes.now) machine.entry.value.code scope.entry.limits (state_at machine.entry.value)) }
 {
     let mut machine = machine;
-    let moves = walk_with(alloc, analyzed_design, classes, limits, room, &mut machine)?;
+    let moves = walk_with(scope, analyzed_design, room, &mut machine)?;
     if moves.is_empty() {
-        follow(alloc, classes, limits, room, machine)
+        follow(scope, room, machine)
     } else {
-        arrive(alloc, machine, moves)
+        arrive(scope.alloc, machine, moves)
     }
 }

@@ -1,31 +1,27 @@
 //! The lawful journals of what a search of loose runs found.
-ghost use Rattle.std.specs.Prelude.{◌≤◌, IfOk, IfSome};
+ghost use Rattle.std.specs.Prelude.{◌≡◌, ◌≤◌, true, Some, IfOk, IfSome, OnErr};
 ghost use Rattle.model.specs.Runs.{last_time};
 ghost use Rattle.loose.specs.Classes.{class_in};
 ghost use Rattle.explore.specs.Search.{IsEndless};
 ghost use Rattle.lawful.specs.LooseNodes.{searched_runs};
-ghost use Rattle.lawful.specs.Journals.{AreShownLawfully, IsFoundLawfully, IsShownLawfully};
+ghost use Rattle.lawful.specs.Journals.{AreFirstShownLawfully, IsAddedLawfully, IsFoundLawfully, IsShownLawfully, IsStoppedBy, memory_or};
 
 use crate::endless::endless_journal;
-use design::Design;
-use explore::{Explored, Shown};
+use explore::{Explored, Shown, Stopped};
 use loose::transition::LooseTransition;
-use loosejournals::{LooseRun, lawful_journal};
-use model::end::{End, Limits};
+use loosejournals::{LeadScope, LooseRun, lawful_journal};
+use model::end::End;
 use model::entry::Entry;
-use std::alloc::{AllocError, Global};
+use std::alloc::AllocError;
 
-// A text and an end with a lawful journal of them, in the place of the loose run, which was taken by these classes. None where no journal
-// is found.
+// A text and an end with a lawful journal of them, in the place of the loose run. None where no journal is found. Fails where memory is
+// refused.
 fn with_journal(
-    alloc: Global,
-    design: &Design,
-    limits: Limits,
-    classes: &[u32],
+    scope: LeadScope<'_>,
     shown: Shown<LooseTransition, End>,
 ) -> Result<Option<Shown<Entry, End>>, AllocError>
-    requires until { IfSome limits.until (λ until. until ≤ last_time) }
-    ensures { IfOk result (λ found. IfSome found (IsShownLawfully design.now limits shown)) }
+    requires until { IfSome scope.limits.until (λ until. until ≤ last_time) }
+    ensures { IfOk result (λ found. IfSome found (IsShownLawfully scope.entry.design.now scope.entry.limits shown)) }
 {
     let Shown { text, end, moves } = shown;
     let run = LooseRun {
@@ -33,7 +29,7 @@ fn with_journal(
         text: text.as_slice(),
         end,
     };
-    match lawful_journal(alloc, design, limits, classes, run)? {
+    match lawful_journal(scope, run)? {
         Some(journal) => Ok(Some(Shown {
             text,
             end,
@@ -43,41 +39,96 @@ fn with_journal(
     }
 }
 
-// The same texts and ends in the same order, with a lawful journal of each: they were shown by loose runs that were taken by these
-// classes. None where no lawful journal is found of one. Fails where memory is refused.
-fn with_journals(
-    alloc: Global,
-    design: &Design,
-    limits: Limits,
-    classes: &[u32],
-    shown: Vec<Shown<LooseTransition, End>>,
-) -> Result<Option<Vec<Shown<Entry, End>>>, AllocError>
-    requires until { IfSome limits.until (λ until. until ≤ last_time) }
-    ensures { IfOk result (λ found. IfSome found (λ lawful. AreShownLawfully design.now limits shown.items lawful.items)) }
-{
-    let mut lawful = Vec::new(alloc);
-    for loosely in shown {
-        match with_journal(alloc, design, limits, classes, loosely)? {
-            Some(one) => lawful.push(one)?,
-            None => return Ok(None),
-        }
-    }
-    Ok(Some(lawful))
+// What has a lawful journal of what loose runs show, and whether that is all of it.
+struct ShownLawfully {
+    shown: Vec<Shown<Entry, End>>,
+    whole: bool,
 }
 
-/// What a search of loose runs by these classes found, with lawful journals in the place of its runs: one of each text and end that is
-/// shown, and one from which no run comes to an end, where it found such a run. None where no lawful journal is found of one of these
-/// runs. Fails where memory is refused.
+// Adds a text and an end with a lawful journal of them. Answers whether one was found. Fails where memory is refused, and then none is
+// added.
+fn add_journal(
+    scope: LeadScope<'_>,
+    shown: Shown<LooseTransition, End>,
+    lawful: &mut Vec<Shown<Entry, End>>,
+) -> Result<bool, AllocError>
+    requires until { IfSome scope.limits.until (λ until. until ≤ last_time) }
+    ensures added { IfOk result (λ added. added ≡ true → IsAddedLawfully scope.entry.design.now scope.entry.limits lawful.old.items shown lawful.new.items) }
+    ensures refused { OnErr result (lawful.new.items ≡ lawful.old.items) }
+{
+    match with_journal(scope, shown)? {
+        Some(one) => {
+            lawful.push(one)?;
+            Ok(true)
+        }
+        None => Ok(false),
+    }
+}
+
+// The same texts and ends in the same order, with a lawful journal of each. Where memory is refused to one, those before it. None where no
+// lawful journal is found of one.
+fn with_journals(
+    scope: LeadScope<'_>,
+    shown: Vec<Shown<LooseTransition, End>>,
+) -> Option<ShownLawfully>
+    requires until { IfSome scope.limits.until (λ until. until ≤ last_time) }
+    ensures { IfSome result (λ lawful. AreFirstShownLawfully scope.entry.design.now scope.entry.limits shown.items lawful.shown.items lawful.whole) }
+{
+    let mut lawful = Vec::new(scope.alloc);
+    for loosely in shown {
+        match add_journal(scope, loosely, &mut lawful) {
+            Ok(added) => {
+                if !added {
+                    return None;
+                }
+            }
+            Err(_) => {
+                return Some(ShownLawfully {
+                    shown: lawful,
+                    whole: false,
+                });
+            }
+        }
+    }
+    Some(ShownLawfully {
+        shown: lawful,
+        whole: true,
+    })
+}
+
+// Why a search stopped that lacks a journal for want of memory: for a reason that it had before it, other than the most texts, of which it
+// may show fewer now.
+fn stopped_without_journal(stopped: Option<Stopped>) -> Stopped
+    ensures { Some result ≡ memory_or stopped }
+{
+    match stopped {
+        Some(Stopped::Nodes) => Stopped::Nodes,
+        Some(Stopped::Unfollowed) => Stopped::Unfollowed,
+        Some(Stopped::Bytes) => Stopped::Bytes,
+        _ => Stopped::Memory,
+    }
+}
+
+// Why a search stopped, by whether all its runs have their journals.
+fn stopped_by(stopped: Option<Stopped>, whole: bool) -> Option<Stopped>
+    ensures { IsStoppedBy stopped whole result }
+{
+    if whole {
+        return stopped;
+    }
+    Some(stopped_without_journal(stopped))
+}
+
+/// What a search of loose runs found, with lawful journals in the place of its runs: one of each text and end that is shown, and one from
+/// which no run comes to an end, where it found such a run. Where memory is refused to a journal, what has one so far, and the search says
+/// that it stopped. None where no lawful journal is found of one of these runs.
 pub(crate) fn with_all_journals(
-    alloc: Global,
-    design: &Design,
-    limits: Limits,
-    classes: &[u32],
+    scope: LeadScope<'_>,
     explored: Explored<LooseTransition, End>,
-) -> Result<Option<Explored<Entry, End>>, AllocError>
-    requires until { IfSome limits.until (λ until. until ≤ last_time) }
-    requires endless { IfSome explored.endless (λ moves. IsEndless (searched_runs design.now (class_in classes.now) limits) moves.items) }
-    ensures { IfOk result (λ found. IfSome found (IsFoundLawfully design.now limits explored)) }
+) -> Option<Explored<Entry, End>>
+    requires until { IfSome scope.limits.until (λ until. until ≤ last_time) }
+    requires endless { IfSome explored.endless (λ moves. IsEndless (searched_runs scope.design.now (class_in scope.classes.now) scope.limits) moves.items) }
+    ensures { IfSome result (IsFoundLawfully scope.entry.design.now scope.entry.limits explored) }
 {
     let Explored {
         shown,
@@ -85,28 +136,31 @@ pub(crate) fn with_all_journals(
         nodes,
         endless,
     } = explored;
-    let shown = match with_journals(alloc, design, limits, classes, shown)? {
-        Some(shown) => shown,
-        None => return Ok(None),
-    };
+    let ShownLawfully { shown, whole } = with_journals(scope, shown)?;
     let moves = match endless {
         Some(moves) => moves,
         None => {
-            return Ok(Some(Explored {
+            return Some(Explored {
                 shown,
-                stopped,
+                stopped: stopped_by(stopped, whole),
                 nodes,
                 endless: None,
-            }));
+            });
         }
     };
-    match endless_journal(alloc, design, limits, classes, &moves)? {
-        Some(journal) => Ok(Some(Explored {
+    match endless_journal(scope, &moves) {
+        Ok(Some(journal)) => Some(Explored {
             shown,
-            stopped,
+            stopped: stopped_by(stopped, whole),
             nodes,
             endless: Some(journal),
-        })),
-        None => Ok(None),
+        }),
+        Ok(None) => None,
+        Err(_) => Some(Explored {
+            shown,
+            stopped: stopped_by(stopped, false),
+            nodes,
+            endless: None,
+        }),
     }
 }

@@ -1,5 +1,5 @@
 //! The lawful orders of a design, found by its loose runs.
-ghost use Rattle.std.specs.Prelude.{◌≡◌, ◌<◌, ◌≤◌, length, None, Some, IfOk, IfSome};
+ghost use Rattle.std.specs.Prelude.{◌≡◌, ◌<◌, ◌≤◌, length, None, Some, IfSome};
 ghost use Rattle.std.specs.List.{All, AllPairs, Any};
 ghost use Rattle.model.specs.Runs.{last_time};
 ghost use Rattle.model.specs.Texts.{AreAllTexts, IsEndlessJournal, IsLawfulText, IsWithinLimits};
@@ -11,12 +11,12 @@ use crate::journals::with_all_journals;
 use crate::search::LooseRuns;
 use design::Design;
 use explore::{Bounds, Explored, Stopped, explore};
-use loosejournals::classes_of;
+use loosejournals::{LeadScope, classes_of};
 use model::end::{End, Limits};
 use model::entry::Entry;
 use progress::Progress;
 use settling::AnalyzedDesign;
-use std::alloc::{AllocError, Global};
+use std::alloc::Global;
 
 // What is searched: the lawful orders of a design within these limits, and how far.
 #[derive(Clone, Copy)]
@@ -27,7 +27,7 @@ struct Scope<'a> {
     bounds: Bounds,
 }
 
-// What is found where memory is refused to a search from its start.
+// What is found where memory is refused to a search from its start, or no text has a lawful journal.
 fn nothing_found(alloc: Global) -> Explored<Entry, End>
     ensures { IsNothingFound result }
 {
@@ -42,14 +42,14 @@ fn nothing_found(alloc: Global) -> Explored<Entry, End>
 // Searches all loose runs of a design, in which an update waits for those of its class alone, and gives each text that is shown a lawful
 // journal. None where no lawful journal is found of a text that loose runs show, or none that leads where a loose run leads from which no
 // run comes to an end: that text may be one of no lawful journal, and the others may be fewer than all; lawful runs may all come to an end.
-// Fails where memory is refused behind the search; where it is refused to the search itself, that is what stopped it.
+// Where memory is refused, to the search or to a journal behind it, it stops with what has a journal so far.
 fn orders_by<P: Progress>(
     scope: Scope<'_>,
     progress: &P,
     classes: Vec<u32>,
-) -> Result<Option<Explored<Entry, End>>, AllocError>
+) -> Option<Explored<Entry, End>>
     requires { MaySearch scope.limits scope.bounds }
-    ensures { IfOk result (λ found. IfSome found (AreLawfulOrders (design_of scope.entry.design.now) scope.entry.limits scope.entry.bounds)) }
+    ensures { IfSome result (AreLawfulOrders (design_of scope.entry.design.now) scope.entry.limits scope.entry.bounds) }
 {
     let Scope {
         alloc,
@@ -59,7 +59,13 @@ fn orders_by<P: Progress>(
     } = scope;
     let orders = LooseRuns::new(AnalyzedDesign::of(alloc, design), classes, limits);
     let explored = explore(alloc, &orders, bounds, progress);
-    with_all_journals(alloc, design, limits, &orders.classes, explored)
+    let leading = LeadScope {
+        alloc,
+        design,
+        limits,
+        classes: orders.classes.as_slice(),
+    };
+    with_all_journals(leading, explored)
 }
 
 // Searches by the classes that the design's nonblocking assignments need, and where these don't tell with all registers in one class: then
@@ -72,15 +78,13 @@ fn orders_of<P: Progress>(scope: Scope<'_>, progress: &P) -> Explored<Entry, End
         Ok(classes) => classes,
         Err(_) => return nothing_found(scope.alloc),
     };
-    match orders_by(scope, progress, classes) {
-        Ok(Some(explored)) => return explored,
-        Ok(None) => {}
-        Err(_) => return nothing_found(scope.alloc),
+    if let Some(explored) = orders_by(scope, progress, classes) {
+        return explored;
     }
     // a register that isn't listed is of class 0
     match orders_by(scope, progress, Vec::new(scope.alloc)) {
-        Ok(Some(explored)) => explored,
-        _ => nothing_found(scope.alloc),
+        Some(explored) => explored,
+        None => nothing_found(scope.alloc),
     }
 }
 
@@ -91,7 +95,8 @@ fn orders_of<P: Progress>(scope: Scope<'_>, progress: &P) -> Explored<Entry, End
 /// journal has more than the most entries. How many states were reached is told at times.
 ///
 /// The loose runs of the design are searched, and each lawful journal is one. Where one of their texts has no lawful journal that is
-/// found, the search is made once more with all registers in one class.
+/// found, the search is made once more with all registers in one class. Where memory is refused to a journal, the texts before it are
+/// shown with theirs.
 pub fn lawful_orders<P: Progress>(
     alloc: Global,
     design: &Design,

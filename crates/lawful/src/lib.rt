@@ -22,6 +22,7 @@ mod journals;
 mod lawful;
 mod node;
 mod search;
+mod search_room;
 
 pub use lawful::lawful_orders;
 pub use node::LooseNode;

@@ -6,8 +6,9 @@ ghost use Rattle.design.specs.Compiled.{design_of};
 ghost use Rattle.lawful.specs.LooseNodes.{AreBounded};
 
 use crate::again::{again, weight};
-use crate::expand::expand;
-use crate::node::{LooseNode, SearchRoom};
+use crate::expand::{ExpandScope, expand};
+use crate::node::LooseNode;
+use crate::search_room::SearchRoom;
 use design::Design;
 use explore::{Expanded, Orders};
 use loose::transition::LooseTransition;
@@ -96,14 +97,12 @@ impl<'d> Orders for LooseRuns<'d> {
         room: &mut SearchRoom,
         node: LooseNode<'d>,
     ) -> Result<Expanded<LooseNode<'d>, LooseTransition, End>, AllocError> {
-        let expanded = expand(
+        let scope = ExpandScope {
             alloc,
-            &self.analyzed_design,
-            &self.classes,
-            self.limits,
-            room,
-            node.machine,
-        )?;
+            classes: self.classes.as_slice(),
+            limits: self.limits,
+        };
+        let expanded = expand(scope, &self.analyzed_design, room, node.machine)?;
         Ok(expanded)
     }
 

@@ -1,20 +1,19 @@
 //! The lawful journal of a loose run.
-ghost use Rattle.std.specs.Prelude.{◌≡◌, ◌≤◌, IfOk, IfSome};
+ghost use Rattle.std.specs.Prelude.{◌≤◌, IfOk, IfSome};
 ghost use Rattle.model.specs.Runs.{last_time};
 ghost use Rattle.model.specs.declared.end.Limits.{Limits};
 ghost use Rattle.design.specs.Compiled.{Compiled};
-ghost use Rattle.runs.specs.RunRecords.{HasComeTo, IsRun};
+ghost use Rattle.runs.specs.RunRecords.{IsRun};
 ghost use Rattle.loosejournals.specs.FoundJournals.{IsJournalOf};
 
-use crate::led_run::{LedRun, lead};
-use design::Design;
+use crate::lead_scope::LeadScope;
+use crate::led_run::lead;
 use loose::transition::LooseTransition;
-use model::end::{End, Limits, Why};
+use model::end::{End, Why};
 use model::entry::Entry;
-use regions::Machine;
 use runs::compared::is_whole;
 use runs::run::RunRecord;
-use std::alloc::{AllocError, Global};
+use std::alloc::AllocError;
 
 /// A loose run that came to an end: its transitions, what it printed, and its end.
 #[derive(Clone, Copy)]
@@ -22,13 +21,6 @@ pub struct LooseRun<'a> {
     pub moves: &'a [LooseTransition],
     pub text: &'a [u8],
     pub end: End,
-}
-
-/// A lawful journal, and the machine that took its entries. That is on the heap, so that it is moved and dropped as a pointer.
-#[derive(Drop)]
-pub struct LedJournal<'d> {
-    pub journal: Vec<Entry>,
-    pub machine: Box<Machine<'d>>,
 }
 
 // The process whose turn is too long, where a run ends by one.
@@ -62,50 +54,21 @@ fn journal_of(run: RunRecord, text: &[u8], end: End) -> Option<Vec<Entry>>
 ///
 /// The limit of time isn't past the last time, as for every run.
 pub fn lawful_journal(
-    alloc: Global,
-    design: &Design,
-    limits: Limits,
-    classes: &[u32],
+    scope: LeadScope<'_>,
     run: LooseRun<'_>,
 ) -> Result<Option<Vec<Entry>>, AllocError>
-    requires until { IfSome limits.until (λ until. until ≤ last_time) }
-    ensures { IfOk result (λ found. IfSome found (λ journal. IsJournalOf design.now limits run.entry.text.now run.entry.end journal.items)) }
+    requires until { IfSome scope.limits.until (λ until. until ≤ last_time) }
+    ensures { IfOk result (λ found. IfSome found (λ journal. IsJournalOf scope.entry.design.now scope.entry.limits run.entry.text.now run.entry.end journal.items)) }
 {
-    let mut led = match lead(alloc, design, limits, classes, run.moves)? {
+    let mut led = match lead(scope, run.moves)? {
         Some(led) => led,
         None => return Ok(None),
     };
-    match led.end_by(limits, long_process(run.end))? {
-        Some(end) => Ok(journal_of(led.told(limits, end), run.text, run.end)),
+    match led.end_by(scope.limits, long_process(run.end))? {
+        Some(end) => {
+            let told = led.told(scope.alloc, scope.limits, end);
+            Ok(journal_of(told, run.text, run.end))
+        }
         None => Ok(None),
     }
-}
-
-/// The lawful journal of the run that is led by the transitions of a loose run, by the classes of registers by which that was taken, and
-/// the machine behind it. It may have taken some updates that the loose run has yet to take. None where no run is led so within the limits.
-/// Fails where memory is refused.
-///
-/// The limit of time isn't past the last time, as for every run.
-pub fn journal_to<'d>(
-    alloc: Global,
-    design: &'d Design,
-    limits: Limits,
-    classes: &[u32],
-    moves: &[LooseTransition],
-) -> Result<Option<LedJournal<'d>>, AllocError>
-    requires until { IfSome limits.until (λ until. until ≤ last_time) }
-    ensures come { IfOk result (λ found. IfSome found (λ led. HasComeTo limits led.journal.items led.machine.value)) }
-    ensures code { IfOk result (λ found. IfSome found (λ led. led.machine.value.code ≡ design.now)) }
-{
-    let led = match lead(alloc, design, limits, classes, moves)? {
-        Some(led) => led,
-        None => return Ok(None),
-    };
-    let LedRun {
-        machine,
-        journal,
-        ..
-    } = led;
-    let machine = Box::new(alloc, machine)?;
-    Ok(Some(LedJournal { journal, machine }))
 }

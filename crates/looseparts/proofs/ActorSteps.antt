@@ -1,5 +1,5 @@
 -- What a machine takes for an actor is his step, and whoever waits may be taken.
-use Rattle.std.proofs.Common.{◌≡◌, ℕ, Bool, true, false, not, if◌then◌else◌, ◌==◌, inl, inr, List, [], ◌∷◌, Option, Some, None, refl, sym, ap, subst, ◌∙◌}
+use Rattle.std.proofs.Common.{◌≡◌, ℕ, Bool, true, false, not, if◌then◌else◌, ◌==◌, inl, inr, List, [], ◌∷◌, ◌++◌, Option, Some, None, refl, sym, ap, subst, ◌∙◌}
 use Rattle.model.specs.declared.entry.Entry.{Entry}
 use Rattle.model.specs.declared.entry.Entry.TheVariants.{Turn, Update}
 use Rattle.model.specs.declared.entry.Refusal.TheVariants.{Finished}
@@ -33,18 +33,20 @@ use Rattle.looseparts.specs.ActorSteps.{IsActorStep}
 one_transition : (o : Option LooseTransition) (a b : LooseTransition) → o ≡ Some a → o ≡ Some b → a ≡ b
 one_transition o a b is is' = cc
 
--- a step from a state that is alike is one from the state itself
-step_from : (class : ℕ → ℕ) (code : Compiled) (s t new : State) (before behind : List ℕ) (actor : LooseTransition) (entry : Entry) (note : NoteView) → IsInOrder s → IsInOrder t → AlikeIn class s t → IsEntryFor class s t actor entry
-    → IsTaken code t before entry new behind → IsEntryNoted class code t entry note → IsActorStep class code s actor note new
-step_from class code s t new before behind actor entry note order order' alike is taken noted =
-    let design = design_of code in
+-- a step from where a machine stands that is alike is one from where it stood
+step_from : (class : ℕ → ℕ) (p m new : MachineView) (actor : LooseTransition) (entry : Entry) (note : NoteView) → IsInOrder (state_at p) → IsInOrder (state_at m) → AlikeIn class (state_at p) (state_at m) → IsEntryFor class (state_at p) (state_at m) actor entry
+    → IsTaken p.code (state_at m) p.lines entry (state_at new) new.lines → IsEntryNoted class p.code (state_at m) entry note → IsActorStep class p actor note new
+step_from class p m new actor entry note order order' alike is taken noted =
+    let s = state_at p in
+    let t = state_at m in
+    let design = design_of p.code in
     let with_print : IsStepWith class design t entry noted.own taken.effect = (step_is_loose class design t entry taken.effect taken.is_step, noted.own_is) in
     let (own, lines, changes, ends) = footprint_tells class design t entry noted.own taken.effect order' with_print in
     let owner : noted.own.owner ≡ actor = one_transition (loose_transition_of class t entry) noted.own.owner actor own is.transition_is in
-    let new_order : IsInOrder new = subst IsInOrder taken.state_is (loose_step_keeps_order class design t entry taken.effect order' with_print.0) in
-    let move : IsMove class design t actor noted.own new = (entry, taken.effect, with_print, owner, taken.state_is) in
+    let new_order : IsInOrder (state_at new) = subst IsInOrder taken.state_is (loose_step_keeps_order class design t entry taken.effect order' with_print.0) in
+    let move : IsMove class design t actor noted.own (state_at new) = (entry, taken.effect, with_print, owner, taken.state_is) in
     let laws : AreMoves (loose_moves class design) = loose_steps_are_moves class design in
-    let (after, steps, near) = laws.steps_alike (t, order') (s, order) (new, new_order) actor noted.own (states_in-sym class s t alike) move in
+    let (after, steps, near) = laws.steps_alike (t, order') (s, order) (state_at new, new_order) actor noted.own (states_in-sym class s t alike) move in
     record {
       own = noted.own;
       after = after.0;
@@ -52,16 +54,18 @@ step_from class code s t new before behind actor entry note order order' alike i
       steps = steps;
       tells = noted.tells;
       ends = sym ends ∙ ap (λ (z : State). z.finished) taken.state_is;
-      alike = states_in-sym class new after.0 near;
+      alike = states_in-sym class (state_at new) after.0 near;
       new_order = new_order;
+      lines_are = taken.lines_are ∙ ap (λ z. p.lines ++ z) lines;
     }
 
-pub actor_step : (class : ℕ → ℕ) (p m : MachineView) (new : State) (behind : List ℕ) (actor : LooseTransition) (entry : Entry) (note : NoteView) → IsReordered p m → IsInOrder (state_at p) → IsInOrder (state_at m) → AlikeIn class (state_at p) (state_at m)
-    → IsEntryFor class (state_at p) (state_at m) actor entry → IsTaken m.code (state_at m) m.lines entry new behind → IsEntryNoted class m.code (state_at m) entry note → IsActorStep class p.code (state_at p) actor note new
-actor_step class p m new behind actor entry note rest order order' alike is taken noted =
+pub actor_step : (class : ℕ → ℕ) (p m new : MachineView) (actor : LooseTransition) (entry : Entry) (note : NoteView) → IsReordered p m → IsInOrder (state_at p) → IsInOrder (state_at m) → AlikeIn class (state_at p) (state_at m)
+    → IsEntryFor class (state_at p) (state_at m) actor entry → IsTaken m.code (state_at m) m.lines entry (state_at new) new.lines → IsEntryNoted class m.code (state_at m) entry note → IsActorStep class p actor note new
+actor_step class p m new actor entry note rest order order' alike is taken noted =
     let same : m.code ≡ p.code = ap (λ (q : MachineView). q.code) rest in
-    step_from class p.code (state_at p) (state_at m) new m.lines behind actor entry note order order' alike is
-    (subst (λ (code : Compiled). IsTaken code (state_at m) m.lines entry new behind) same taken)
+    let lines : m.lines ≡ p.lines = ap (λ (q : MachineView). q.lines) rest in
+    step_from class p m new actor entry note order order' alike is
+    (subst (λ (code : Compiled). IsTaken code (state_at m) p.lines entry (state_at new) new.lines) same (subst (λ (z : List ℕ). IsTaken m.code (state_at m) z entry (state_at new) new.lines) lines taken))
     (subst (λ (code : Compiled). IsEntryNoted class code (state_at m) entry note) same noted)
 
 -- whoever waits may be taken

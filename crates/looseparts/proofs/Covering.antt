@@ -63,7 +63,7 @@ contains_nothing {X} x (k, less, at) = omega arith
 any_there : {X : Type 0} (P : X → Type 0) (xs : List X) (x : X) → Contains xs x → P x → Any P xs
 any_there {X} P xs x (k, less, at) h = (k, x, less, at, h)
 
-none_both : {L F : Type 0} (Ends : F → Type 0) (x y : List (L × F)) → NoneEnds Ends x → NoneEnds Ends y → NoneEnds Ends (x ++ y)
+pub none_both : {L F : Type 0} (Ends : F → Type 0) (x y : List (L × F)) → NoneEnds Ends x → NoneEnds Ends y → NoneEnds Ends (x ++ y)
 none_both Ends [] y none none' = none'
 none_both Ends (s ∷ x) y (free, none) none' = (free, none_both Ends x y none none')
 
@@ -83,7 +83,7 @@ module _ (class : ℕ → ℕ) (design : Design) where
   laws = loose_steps_are_moves class design
 
   -- who steps has an event, and the run isn't finished
-  stepping : (s t : OrderedState) (a : LooseTransition) (f : Footprint) → IsMove class design s.0 a f t.0 → (has_any s.0.active ≡ true) × (s.0.finished ≡ false)
+  pub stepping : (s t : OrderedState) (a : LooseTransition) (f : Footprint) → IsMove class design s.0 a f t.0 → (has_any s.0.active ≡ true) × (s.0.finished ≡ false)
   stepping s t a f (entry, x, step, owner, leads) =
       let (going, (d, acts)) = step_acts class design s.0 entry x f step in
       let match : Matches class s.0 d x f = acts_match class design s.0 entry d x f acts in

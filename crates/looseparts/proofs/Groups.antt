@@ -1,6 +1,8 @@
 -- What is found of groups of actors stands for all.
-use Rattle.std.proofs.Common.{◌≡◌, ◌≢◌, ◌⊎◌, ℕ, ◌+◌, ◌<◌, true, false, List, [], ◌∷◌, ◌++◌, map, take, length, get_or, inl, inr, refl, sym, ap, subst, ◌∙◌}
+use Rattle.std.proofs.Common.{◌≡◌, ◌≢◌, ◌⊎◌, ℕ, ◌+◌, ◌<◌, Bool, true, false, List, [], ◌∷◌, ◌++◌, map, take, length, get_or, inl, inr, refl, sym, ap, subst, ◌∙◌}
 use Rattle.std.specs.List.{All, Contains}
+use Rattle.std.specs.Global.{Vec}
+use Rattle.std.proofs.lemmas.List.{map-append}
 use Rattle.std.proofs.lemmas.List.Elements.{All-nil, All-more, All-weaker, All-contains, Contains-append_left, Contains-append_right}
 use Rattle.model.specs.declared.end.Limits.{Limits}
 use Rattle.model.specs.Design.{Design}
@@ -15,15 +17,14 @@ use Rattle.footprints.specs.Moves.{IsWaiting}
 use Rattle.certificates.specs.Notes.{NoteView}
 use Rattle.certificates.specs.Coming.{wakes_actor}
 use Rattle.looseparts.specs.declared.found.PartFindings.{PartFindings}
-use Rattle.looseparts.specs.declared.found.Followed.{Followed}
 use Rattle.looseparts.specs.declared.found.FoundPart.{FoundPart}
 use Rattle.looseparts.specs.StandTogether.{concern, StandTogether, GoesOnTogether, IsFollowedFirst}
 use Rattle.looseparts.specs.PartLaws.{CoverToEnds}
 use Rattle.looseparts.specs.FoundWays.{ways_in}
-use Rattle.looseparts.specs.FoundParts.{IsAddedBehind, IsPutTogether}
+use Rattle.looseparts.specs.FoundParts.{AreAdded, IsPutBehind, IsPutTogether}
 use Rattle.looseparts.specs.FoundGroups.{FoundStandsForAll, IsFoundFor, IsFollowedBy, IsPart, PartsStandTogether}
 use Rattle.looseparts.specs.ActorSteps.{IsActorStep}
-use Rattle.looseparts.proofs.Lists.{contains_here, contains_later, contains_none, contains_mapped, all_contained}
+use Rattle.looseparts.proofs.Lists.{contains_here, contains_mapped, all_contained}
 use Rattle.looseparts.proofs.Following.{owner_same, followed_stand, apart_stand}
 use Rattle.looseparts.proofs.Covering.{standing_covers, nobody_is_long}
 
@@ -70,59 +71,75 @@ module _ (class : ℕ → ℕ) (design : Design) (s : State) (group : List Loose
 abbrev behind_one : LooseTransition → List (List LooseTransition) → List (List LooseTransition)
 behind_one actor ways = map (λ way. actor ∷ way) ways
 
-pub followed_by : (class : ℕ → ℕ) (code : Compiled) (s new : State) (group next : List LooseTransition) (actor : LooseTransition) (note : NoteView) (behind : PartFindings) → IsActorStep class code s actor note new → new.finished ≡ false
-    → ((a : LooseTransition) → IsWaiting class new a → Contains group a ⊎ (wakes_actor note a ≡ true) → Contains next a) → IsFoundFor class code new next behind
-    → IsFollowedFirst class (design_of code) s group (behind_one actor (ways_in behind.ways.items)) (behind_one actor (ways_in behind.ends.items)) (note ∷ behind.notes.items) actor
-followed_by class code s new group next actor note behind step going waiting found =
-    record {
-      note = note;
-      own = step.own;
-      after = step.after;
-      after_order = step.after_order;
-      steps = step.steps;
-      tells = step.tells;
-      there = contains_here note behind.notes.items;
-      on = inr (
-        step.ends ∙ going,
-        record {
-          near = new;
-          alike = step.alike;
-          more_ways = ways_in behind.ways.items;
-          more_ends = ways_in behind.ends.items;
-          more_notes = behind.notes.items;
-          stand = found.stand;
-          all = λ b waits either. All-contains (λ a. concern behind.notes.items a ≡ true) next b found.all (waiting b waits either);
-          ways_on = λ way there. contains_mapped (λ (way : List LooseTransition). actor ∷ way) (ways_in behind.ways.items) way there;
-          ends_on = λ way there. contains_mapped (λ (way : List LooseTransition). actor ∷ way) (ways_in behind.ends.items) way there;
-          notes_on = λ other there. contains_later other note behind.notes.items there;
-        },
-      );
-    }
+module _ (class : ℕ → ℕ) (old new : MachineView) (group next : List LooseTransition) (actor : LooseTransition) (note : NoteView) (behind found : PartFindings) (step : IsActorStep class old actor note new) (put : IsPutBehind actor (note ∷ []) behind found) where
+  own_note : Contains found.notes.items note
+  own_note = subst (λ z. Contains z note) (sym put.notes_are) (Contains-append_right behind.notes.items (note ∷ []) note (contains_here note []))
 
--- a step that ended the run
-pub followed_to_end : (class : ℕ → ℕ) (code : Compiled) (s new : State) (group : List LooseTransition) (actor : LooseTransition) (note : NoteView) (behind : PartFindings) → IsActorStep class code s actor note new → new.finished ≡ true → ways_in behind.ends.items ≡ [] ∷ []
-    → IsFollowedFirst class (design_of code) s group (behind_one actor (ways_in behind.ways.items)) (behind_one actor (ways_in behind.ends.items)) (note ∷ behind.notes.items) actor
-followed_to_end class code s new group actor note behind step finished one =
-    record {
-      note = note;
-      own = step.own;
-      after = step.after;
-      after_order = step.after_order;
-      steps = step.steps;
-      tells = step.tells;
-      there = contains_here note behind.notes.items;
-      on = inl (step.ends ∙ finished, step.alike.finished ∙ finished, subst (λ z. Contains (behind_one actor z) (actor ∷ [])) (sym one) (contains_here (actor ∷ []) []));
-    }
+  way_behind : (way : List LooseTransition) → Contains (ways_in behind.ways.items) way → Contains (ways_in found.ways.items) (actor ∷ way)
+  way_behind way there =
+      subst (λ z. Contains z (actor ∷ way)) (sym put.ways) (contains_mapped (λ (way : List LooseTransition). actor ∷ way) (ways_in behind.ways.items) way there)
+
+  end_behind : (way : List LooseTransition) → Contains (ways_in behind.ends.items) way → Contains (ways_in found.ends.items) (actor ∷ way)
+  end_behind way there =
+      subst (λ z. Contains z (actor ∷ way)) (sym put.ends) (contains_mapped (λ (way : List LooseTransition). actor ∷ way) (ways_in behind.ends.items) way there)
+
+  followed_on : new.core.finished ≡ false → ((a : LooseTransition) → IsWaiting class (state_at new) a → Contains group a ⊎ (wakes_actor note a ≡ true) → Contains next a) → IsFoundFor class old.code (state_at new) next behind → IsFollowedBy class old.code (state_at old) group actor found
+  followed_on going waiting is =
+      record {
+        note = note;
+        own = step.own;
+        after = step.after;
+        after_order = step.after_order;
+        steps = step.steps;
+        tells = step.tells;
+        there = own_note;
+        on = inr (
+          step.ends ∙ going,
+          record {
+            near = state_at new;
+            alike = step.alike;
+            more_ways = ways_in behind.ways.items;
+            more_ends = ways_in behind.ends.items;
+            more_notes = behind.notes.items;
+            stand = is.stand;
+            all = λ b waits either. All-contains (λ a. concern behind.notes.items a ≡ true) next b is.all (waiting b waits either);
+            ways_on = way_behind;
+            ends_on = end_behind;
+            notes_on = λ other there. subst (λ z. Contains z other) (sym put.notes_are) (Contains-append_left behind.notes.items (note ∷ []) other there);
+          },
+        );
+      }
+
+  -- a step that ended the run
+  followed_to_end : new.core.finished ≡ true → ways_in behind.ends.items ≡ [] ∷ [] → IsFollowedBy class old.code (state_at old) group actor found
+  followed_to_end finished one =
+      record {
+        note = note;
+        own = step.own;
+        after = step.after;
+        after_order = step.after_order;
+        steps = step.steps;
+        tells = step.tells;
+        there = own_note;
+        on = inl (step.ends ∙ finished, step.alike.finished ∙ finished, end_behind [] (subst (λ z. Contains z []) (sym one) (contains_here [] [])));
+      }
+
+  -- whether or not it did
+  followed_either : (finished : Bool) → new.core.finished ≡ finished → (finished ≡ false → (a : LooseTransition) → IsWaiting class (state_at new) a → Contains group a ⊎ (wakes_actor note a ≡ true) → Contains next a)
+      → (finished ≡ false → IsFoundFor class old.code (state_at new) next behind) → (finished ≡ true → ways_in behind.ends.items ≡ [] ∷ []) → IsFollowedBy class old.code (state_at old) group actor found
+  followed_either true is waiting going ended = followed_to_end is (ended refl)
+  followed_either false is waiting going ended = followed_on is (waiting refl) (going refl)
 
 -- the same, where a copy of a machine took the step
-pub followed_at : (class : ℕ → ℕ) (old new one other : MachineView) (group next among : List LooseTransition) (actor : LooseTransition) (note : NoteView) (behind : PartFindings) → IsActorStep class old.code (state_at old) actor note (state_at new) → new.core.finished ≡ false → new.code ≡ old.code
-    → one ≡ new → other ≡ new → among ≡ next → ((a : LooseTransition) → IsWaiting class (state_at one) a → Contains group a ⊎ (wakes_actor note a ≡ true) → Contains next a) → IsFoundFor class other.code (state_at other) among behind
-    → IsFollowedFirst class (design_of old.code) (state_at old) group (behind_one actor (ways_in behind.ways.items)) (behind_one actor (ways_in behind.ends.items)) (note ∷ behind.notes.items) actor
-followed_at class old new one other group next among actor note behind step going code is is' is'' waiting found =
-    followed_by class old.code (state_at old) (state_at new) group next actor note behind step going
-    (subst (λ (m : MachineView). (a : LooseTransition) → IsWaiting class (state_at m) a → Contains group a ⊎ (wakes_actor note a ≡ true) → Contains next a) is waiting)
-    (subst (λ (k : Compiled). IsFoundFor class k (state_at new) next behind) code
-    (subst (λ (l : List LooseTransition). IsFoundFor class new.code (state_at new) l behind) is'' (subst (λ (m : MachineView). IsFoundFor class m.code (state_at m) among behind) is' found)))
+pub followed_at : (class : ℕ → ℕ) (old new one other : MachineView) (group next among : List LooseTransition) (actor : LooseTransition) (note : NoteView) (behind found : PartFindings) → IsActorStep class old actor note new → new.code ≡ old.code → one ≡ new → other ≡ new → among ≡ next
+    → (one.core.finished ≡ false → (a : LooseTransition) → IsWaiting class (state_at one) a → Contains group a ⊎ (wakes_actor note a ≡ true) → Contains next a) → (other.core.finished ≡ false → IsFoundFor class other.code (state_at other) among behind)
+    → (other.core.finished ≡ true → ways_in behind.ends.items ≡ [] ∷ []) → IsPutBehind actor (note ∷ []) behind found → IsFollowedBy class old.code (state_at old) group actor found
+followed_at class old new one other group next among actor note behind found step code is is' is'' waiting going ended put =
+    followed_either class old new group next actor note behind found step put new.core.finished refl
+    (subst (λ (m : MachineView). m.core.finished ≡ false → (a : LooseTransition) → IsWaiting class (state_at m) a → Contains group a ⊎ (wakes_actor note a ≡ true) → Contains next a) is waiting)
+    (subst (λ (k : Compiled). new.core.finished ≡ false → IsFoundFor class k (state_at new) next behind) code
+    (subst (λ (l : List LooseTransition). new.core.finished ≡ false → IsFoundFor class new.code (state_at new) l behind) is'' (subst (λ (m : MachineView). m.core.finished ≡ false → IsFoundFor class m.code (state_at m) among behind) is' going)))
+    (subst (λ (m : MachineView). m.core.finished ≡ true → ways_in behind.ends.items ≡ [] ∷ []) is' ended)
 
 -- one actor more was followed
 
@@ -132,25 +149,31 @@ in_first {X} old added new x is there = subst (λ z. Contains z x) (sym is) (Con
 in_second : {X : Type 0} (old added new : List X) (x : X) → new ≡ old ++ added → Contains added x → Contains new x
 in_second {X} old added new x is there = subst (λ z. Contains z x) (sym is) (Contains-append_right old added x there)
 
+ways_both : (old added new : List (Vec LooseTransition)) → new ≡ old ++ added → ways_in new ≡ ways_in old ++ ways_in added
+ways_both old added new is = ap ways_in is ∙ map-append (λ (w : Vec LooseTransition). w.items) old added
+
 abbrev IsFirstIn : (ℕ → ℕ) → Compiled → State → List LooseTransition → PartFindings → LooseTransition → Type 0
 IsFirstIn class code s group found a = IsFollowedFirst class (design_of code) s group (ways_in found.ways.items) (ways_in found.ends.items) found.notes.items a
 
-module _ (class : ℕ → ℕ) (code : Compiled) (s : State) (group : List LooseTransition) (old new : PartFindings) where
-  pub one_followed : (actors : List LooseTransition) (at : ℕ) (actor d : LooseTransition) (next : Followed) → at < length actors → get_or actors at d ≡ actor → All (IsFirstIn class code s group old) (take at actors) → IsFollowedBy class code s group actor next
-      → IsAddedBehind old actor next new → All (IsFirstIn class code s group new) (take (at + 1) actors)
-  one_followed actors at actor d next below is before own added =
-      let ways = behind_one actor (ways_in next.behind.ways.items) in
-      let ends = behind_one actor (ways_in next.behind.ends.items) in
-      let notes = next.note ∷ next.behind.notes.items in
-      let others : All (IsFirstIn class code s group new) (take at actors) =
-      All-weaker (IsFirstIn class code s group old) (IsFirstIn class code s group new)
-      (λ a d. followed_more class (design_of code) s group (ways_in old.ways.items) (ways_in new.ways.items) (ways_in old.ends.items) (ways_in new.ends.items) old.notes.items new.notes.items
-      (λ way there. in_first (ways_in old.ways.items) ways (ways_in new.ways.items) way added.ways there) (λ way there. in_first (ways_in old.ends.items) ends (ways_in new.ends.items) way added.ends there)
-      (λ note there. in_first old.notes.items notes new.notes.items note added.notes there) a d) (take at actors) before in
-      let last : IsFirstIn class code s group new actor =
-      followed_more class (design_of code) s group ways (ways_in new.ways.items) ends (ways_in new.ends.items) notes new.notes.items (λ way there. in_second (ways_in old.ways.items) ways (ways_in new.ways.items) way added.ways there)
-      (λ way there. in_second (ways_in old.ends.items) ends (ways_in new.ends.items) way added.ends there) (λ note there. in_second old.notes.items notes new.notes.items note added.notes there) actor own in
-      All-more (IsFirstIn class code s group new) actors at d below others (subst (λ z. IsFirstIn class code s group new z) (sym is) last)
+module _ (class : ℕ → ℕ) (code : Compiled) (s : State) (group : List LooseTransition) (old next new : PartFindings) (added : AreAdded old next new) where
+  before_it : (a : LooseTransition) → IsFirstIn class code s group old a → IsFirstIn class code s group new a
+  before_it =
+      followed_more class (design_of code) s group (ways_in old.ways.items) (ways_in new.ways.items) (ways_in old.ends.items) (ways_in new.ends.items) old.notes.items new.notes.items
+      (λ way there. in_first (ways_in old.ways.items) (ways_in next.ways.items) (ways_in new.ways.items) way (ways_both old.ways.items next.ways.items new.ways.items added.ways) there)
+      (λ way there. in_first (ways_in old.ends.items) (ways_in next.ends.items) (ways_in new.ends.items) way (ways_both old.ends.items next.ends.items new.ends.items added.ends) there)
+      (λ note there. in_first old.notes.items next.notes.items new.notes.items note added.notes there)
+
+  itself : (a : LooseTransition) → IsFirstIn class code s group next a → IsFirstIn class code s group new a
+  itself =
+      followed_more class (design_of code) s group (ways_in next.ways.items) (ways_in new.ways.items) (ways_in next.ends.items) (ways_in new.ends.items) next.notes.items new.notes.items
+      (λ way there. in_second (ways_in old.ways.items) (ways_in next.ways.items) (ways_in new.ways.items) way (ways_both old.ways.items next.ways.items new.ways.items added.ways) there)
+      (λ way there. in_second (ways_in old.ends.items) (ways_in next.ends.items) (ways_in new.ends.items) way (ways_both old.ends.items next.ends.items new.ends.items added.ends) there)
+      (λ note there. in_second old.notes.items next.notes.items new.notes.items note added.notes there)
+
+  pub one_followed : (actors : List LooseTransition) (at : ℕ) (actor d : LooseTransition) → at < length actors → get_or actors at d ≡ actor → All (IsFirstIn class code s group old) (take at actors) → IsFirstIn class code s group next actor → All (IsFirstIn class code s group new) (take (at + 1) actors)
+  one_followed actors at actor d below is before own =
+      All-more (IsFirstIn class code s group new) actors at d below (All-weaker (IsFirstIn class code s group old) (IsFirstIn class code s group new) before_it (take at actors) before)
+      (subst (λ z. IsFirstIn class code s group new z) (sym is) (itself actor own))
 
 -- a group whose actors were followed
 
@@ -174,7 +197,7 @@ nobody_stands class code s found ways ends notes order =
 
 pub part_put : (class : ℕ → ℕ) (code : Compiled) (s : State) (one other both : PartFindings) → FoundStandsForAll class code s one → FoundStandsForAll class code s other → IsPutTogether one other both → FoundStandsForAll class code s both
 part_put class code s one other both h k put =
-    subst (λ z. StandTogether class (design_of code) s (ways_in both.ways.items) z both.notes.items) (sym put.ends)
+    subst (λ z. StandTogether class (design_of code) s (ways_in both.ways.items) z both.notes.items) (sym (ways_both one.ends.items other.ends.items both.ends.items put.ends))
     (subst (λ z. StandTogether class (design_of code) s (ways_in both.ways.items) (ways_in one.ends.items ++ ways_in other.ends.items) z) (sym put.notes)
     (apart_stand class (design_of code) s (ways_in one.ways.items) (ways_in other.ways.items) (ways_in both.ways.items) (ways_in one.ends.items) (ways_in other.ends.items) one.notes.items other.notes.items h k put.apart put.ways))
 

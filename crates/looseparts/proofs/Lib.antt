@@ -8,3 +8,4 @@ pub mod ActorSteps
 pub mod Groups
 pub mod Waiters
 pub mod EndingCover
+pub mod GoneAgain

@@ -1,5 +1,5 @@
 -- What was found of a group of actors from a state.
-use Rattle.std.specs.Prelude.{◌≡◌, ℕ, true, List, ◌∷◌, map}
+use Rattle.std.specs.Prelude.{◌≡◌, ℕ, true, List}
 use Rattle.std.specs.List.{All}
 use Rattle.model.specs.States.{State}
 use Rattle.orders.specs.Alike.{IsInOrder}
@@ -8,7 +8,6 @@ use Rattle.loose.specs.declared.transition.LooseTransition.{LooseTransition}
 use Rattle.looseparts.specs.StandTogether.{concern, StandTogether, IsFollowedFirst}
 use Rattle.looseparts.specs.FoundWays.{ways_in}
 use Rattle.looseparts.specs.declared.found.PartFindings.{PartFindings}
-use Rattle.looseparts.specs.declared.found.Followed.{Followed}
 use Rattle.looseparts.specs.declared.found.FoundPart.{FoundPart}
 
 -- what was found stands for all that those do alone whom its notes concern
@@ -21,10 +20,9 @@ pub record IsFoundFor (class : ℕ → ℕ) (code : Compiled) (s : State) (group
   pub all : All (λ a. concern found.notes.items a ≡ true) group
 
 -- an actor of a group was followed first, and this was found
-abbrev pub IsFollowedBy : (ℕ → ℕ) → Compiled → State → List LooseTransition → LooseTransition → Followed → Type 0
-IsFollowedBy class code s group actor next =
-    IsFollowedFirst class (design_of code) s group (map (λ way. actor ∷ way) (ways_in next.behind.ways.items))
-    (map (λ way. actor ∷ way) (ways_in next.behind.ends.items)) (next.note ∷ next.behind.notes.items) actor
+abbrev pub IsFollowedBy : (ℕ → ℕ) → Compiled → State → List LooseTransition → LooseTransition → PartFindings → Type 0
+IsFollowedBy class code s group actor found =
+    IsFollowedFirst class (design_of code) s group (ways_in found.ways.items) (ways_in found.ends.items) found.notes.items actor
 
 -- what was found of a part stands for all
 abbrev pub IsPart : (ℕ → ℕ) → Compiled → State → FoundPart → Type 0

@@ -5,3 +5,4 @@ pub mod FoundParts
 pub mod FoundGroups
 pub mod ActorSteps
 pub mod EndingCover
+pub mod GoneWays

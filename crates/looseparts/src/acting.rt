@@ -10,6 +10,7 @@ ghost use Rattle.certificates.specs.Coming.{is_same, wakes_actor};
 ghost use Rattle.looseparts.specs.StandTogether.{concern};
 ghost use Rattle.looseparts.specs.ActorSteps.{IsActorStep};
 
+use crate::room::PartsRoom;
 use certificates::note::StepNote;
 use loose::transition::LooseTransition;
 use loosesteps::{entry_for, loose_choices};
@@ -88,7 +89,7 @@ fn is_left_out(group: &[LooseTransition], notes: &[StepNote], actor: LooseTransi
     do_concern(notes, actor)
 }
 
-/// The actors who wait of a group, and of those whom a step woke.
+/// The actors who wait of a group, and of those whom a step woke. Nobody where the run has finished.
 pub(crate) fn waiting_of(
     alloc: Global,
     machine: &Machine<'_>,
@@ -96,9 +97,8 @@ pub(crate) fn waiting_of(
     group: &[LooseTransition],
     note: &StepNote,
 ) -> Result<Vec<LooseTransition>, AllocError>
-    requires order { IsInOrder (state_at machine.now) }
-    requires going { machine.now.core.finished ≡ false }
-    ensures { IfOk result (λ next. (a : Actor) → IsWaiting (class_in classes.now) (state_at machine.now) a → Contains group.now a ⊎ (wakes_actor note.now a ≡ true) → Contains next.items a) }
+    requires { IsInOrder (state_at machine.now) }
+    ensures { IfOk result (λ next. machine.now.core.finished ≡ false → (a : Actor) → IsWaiting (class_in classes.now) (state_at machine.now) a → Contains group.now a ⊎ (wakes_actor note.now a ≡ true) → Contains next.items a) }
 {
     let choices = loose_choices(alloc, machine, classes)?;
     let mut next = Vec::new(alloc);
@@ -141,9 +141,21 @@ fn not_noted(fault: NotedFault) -> Result<bool, AllocError>
     }
 }
 
-/// Takes the event of an actor, and fills a note with what the step has to do with others. Answers whether it did. The turn is evaluated
-/// into a log.
-pub(crate) fn take_actor(
+/// A copy of a machine, on the heap.
+pub(crate) fn copy_of<'d>(
+    alloc: Global,
+    machine: &Machine<'d>,
+) -> Result<Box<Machine<'d>>, AllocError>
+    ensures { IfOk result (λ copy. copy.value ≡ machine.now) }
+{
+    let copy = machine.copy(alloc)?;
+    let boxed = Box::new(alloc, copy)?;
+    Ok(boxed)
+}
+
+// Takes the event of an actor, and fills a note with what the step has to do with others. Answers whether it did. The turn is evaluated
+// into a log.
+fn take_actor(
     machine: &mut Machine<'_>,
     classes: &[u32],
     actor: LooseTransition,
@@ -151,7 +163,7 @@ pub(crate) fn take_actor(
     note: &mut StepNote,
 ) -> Result<bool, AllocError>
     requires { IsInOrder (state_at machine.old) }
-    ensures taken { IfOk result (λ done. done ≡ true → IsActorStep (class_in classes.now) machine.old.code (state_at machine.old) actor note.new (state_at machine.new)) }
+    ensures taken { IfOk result (λ done. done ≡ true → IsActorStep (class_in classes.now) machine.old actor note.new machine.new) }
     ensures code { machine.new.code ≡ machine.old.code }
 {
     let entry = match entry_for(machine, classes, actor) {
@@ -162,4 +174,22 @@ pub(crate) fn take_actor(
         Ok(()) => Ok(true),
         Err(fault) => not_noted(fault),
     }
+}
+
+/// Takes the event of an actor, where more steps may be taken. Its note, which says what the step has to do with others, stands in the
+/// room then. Answers whether it did.
+pub(crate) fn take_step(
+    room: &mut PartsRoom,
+    classes: &[u32],
+    machine: &mut Machine<'_>,
+    actor: LooseTransition,
+) -> Result<bool, AllocError>
+    requires { IsInOrder (state_at machine.old) }
+    ensures taken { IfOk result (λ done. done ≡ true → IsActorStep (class_in classes.now) machine.old actor room.new.note machine.new) }
+    ensures code { machine.new.code ≡ machine.old.code }
+{
+    if !room.count_step() {
+        return Ok(false);
+    }
+    take_actor(machine, classes, actor, &mut room.log, &mut room.note)
 }

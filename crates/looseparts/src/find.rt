@@ -1,47 +1,20 @@
 //! What some actors do alone from where a machine stands: parts of them, each followed by its first steps.
-ghost use Rattle.std.specs.Prelude.{◌≡◌, false, true, IfOk, IfSome, OnOk, map};
+ghost use Rattle.std.specs.Prelude.{◌≡◌, [], ◌∷◌, false, true, IfOk, IfSome, OnOk};
 ghost use Rattle.std.specs.List.{All, Contains};
 ghost use Rattle.orders.specs.Alike.{IsInOrder};
 ghost use Rattle.loose.specs.Classes.{class_in};
 ghost use Rattle.regions.specs.Machine.{state_at};
 ghost use Rattle.looseparts.specs.declared.found.FoundPart.{FoundPart as PartView};
-ghost use Rattle.looseparts.specs.ActorSteps.{IsActorStep};
-ghost use Rattle.looseparts.specs.FoundGroups.{PartsStandTogether, IsFollowedBy, IsFoundFor, IsPart};
+ghost use Rattle.looseparts.specs.FoundWays.{ways_in};
+ghost use Rattle.looseparts.specs.FoundGroups.{FoundStandsForAll, PartsStandTogether, IsFollowedBy, IsFoundFor, IsPart};
 
-use crate::acting::{do_concern_all, is_closed, take_actor, waiting_of};
-use crate::found::{Followed, FoundPart, PartFindings, are_all_apart};
+use crate::acting::{copy_of, do_concern_all, is_closed, take_step, waiting_of};
+use crate::found::{FoundPart, PartFindings, are_all_apart, move_note, with_behind};
+use crate::repeats::leave_out_repeats;
 use crate::room::PartsRoom;
-use certificates::note::StepNote;
 use loose::transition::LooseTransition;
 use regions::Machine;
 use std::alloc::{AllocError, Global};
-
-// A copy of a machine, on the heap.
-fn copy_of<'d>(alloc: Global, machine: &Machine<'d>) -> Result<Box<Machine<'d>>, AllocError>
-    ensures { IfOk result (λ copy. copy.value ≡ machine.now) }
-{
-    let copy = machine.copy(alloc)?;
-    let boxed = Box::new(alloc, copy)?;
-    Ok(boxed)
-}
-
-// Takes the event of an actor with a note, where more steps may be taken. Answers whether it did.
-fn take_step(
-    room: &mut PartsRoom,
-    machine: &mut Machine<'_>,
-    classes: &[u32],
-    actor: LooseTransition,
-    note: &mut StepNote,
-) -> Result<bool, AllocError>
-    requires { IsInOrder (state_at machine.old) }
-    ensures taken { IfOk result (λ done. done ≡ true → IsActorStep (class_in classes.now) machine.old.code (state_at machine.old) actor note.new (state_at machine.new)) }
-    ensures code { machine.new.code ≡ machine.old.code }
-{
-    if !room.count_step() {
-        return Ok(false);
-    }
-    take_actor(machine, classes, actor, &mut room.log, note)
-}
 
 // Takes out a part that isn't apart from what was found, where there is one.
 fn take_meeting(parts: &mut Vec<FoundPart>, found: &PartFindings) -> Option<FoundPart>
@@ -59,11 +32,32 @@ fn put_together(alloc: Global, parts: Vec<FoundPart>) -> Result<Option<PartFindi
 {
     let mut all = PartFindings::of_nobody(alloc)?;
     for part in parts {
-        if !all.add_part(alloc, part.found)? {
+        let mut found = part.found;
+        if !all.add_part(alloc, &mut found)? {
             return Ok(None);
         }
     }
     Ok(Some(all))
+}
+
+// Goes on with a group behind a step, unless it ended the run.
+#[cycle(find)]
+fn go_on(
+    room: &mut PartsRoom,
+    classes: &[u32],
+    machine: &Machine<'_>,
+    depth: u32,
+    group: &[LooseTransition],
+) -> Result<Option<PartFindings>, AllocError>
+    requires { IsInOrder (state_at machine.now) }
+    ensures going { machine.now.core.finished ≡ false → IfOk result (λ found. IfSome found (IsFoundFor (class_in classes.now) machine.now.code (state_at machine.now) group.now)) }
+    ensures finished { machine.now.core.finished ≡ true → IfOk result (λ found. IfSome found (λ found. ways_in found.ends.items ≡ [] ∷ [])) }
+{
+    if machine.is_finished() {
+        let end = PartFindings::of_end(room.alloc)?;
+        return Ok(Some(end));
+    }
+    explore(room, classes, machine, depth, group)
 }
 
 // Follows an actor of a group first: its step, and then what is left of the group, with those whom the step woke.
@@ -75,22 +69,22 @@ fn follow_one(
     depth: u32,
     group: &[LooseTransition],
     actor: LooseTransition,
-) -> Result<Option<Followed>, AllocError>
-    requires order { IsInOrder (state_at machine.now) }
-    ensures { IfOk result (λ next. IfSome next (IsFollowedBy (class_in classes.now) machine.now.code (state_at machine.now) group.now actor)) }
+) -> Result<Option<PartFindings>, AllocError>
+    requires { IsInOrder (state_at machine.now) }
+    ensures { IfOk result (λ found. IfSome found (IsFollowedBy (class_in classes.now) machine.now.code (state_at machine.now) group.now actor)) }
 {
     let mut copy = copy_of(room.alloc, machine)?;
-    let mut note = StepNote::new(room.alloc, actor);
-    if !take_step(room, &mut copy, classes, actor, &mut note)? {
+    if !take_step(room, classes, &mut copy, actor)? {
         return Ok(None);
     }
-    if copy.is_finished() {
-        let end = PartFindings::of_end(room.alloc)?;
-        return Ok(Some(Followed { note, behind: end }));
-    }
-    let next = waiting_of(room.alloc, &copy, classes, group, &note)?;
-    match explore(room, classes, &copy, depth, &next)? {
-        Some(behind) => Ok(Some(Followed { note, behind })),
+    let next = waiting_of(room.alloc, &copy, classes, group, &room.note)?;
+    let mut notes = Vec::new(room.alloc);
+    move_note(room.alloc, &mut notes, &mut room.note)?;
+    match go_on(room, classes, &copy, depth, &next)? {
+        Some(mut found) => {
+            found.put_behind(room.alloc, actor, &mut notes)?;
+            Ok(Some(found))
+        }
         None => Ok(None),
     }
 }
@@ -108,15 +102,15 @@ fn follow(
     requires going { machine.now.core.finished ≡ false }
     ensures { IfOk result (λ found. IfSome found (IsFoundFor (class_in classes.now) machine.now.code (state_at machine.now) group.now)) }
 {
+    if group.is_empty() {
+        return Ok(None);
+    }
     let mut found = PartFindings::new(room.alloc);
     for actor in group {
         match follow_one(room, classes, machine, depth, group, *actor)? {
-            Some(next) => found.add_followed(room.alloc, *actor, next)?,
+            Some(mut next) => found.add_all(&mut next)?,
             None => return Ok(None),
         }
-    }
-    if group.is_empty() {
-        return Ok(None);
     }
     if !is_closed(room.alloc, machine, classes, group, &found.notes)? {
         return Ok(None);
@@ -124,7 +118,27 @@ fn follow(
     Ok(Some(found))
 }
 
-// The part of an actor: he alone, or he with those of the parts so far from which he isn't apart. These are taken out.
+// The part of some actors, of which this was found. Where more than one of them may be first, of ways that come to the same one is kept.
+fn part_with(
+    room: &mut PartsRoom,
+    classes: &[u32],
+    machine: &Machine<'_>,
+    actors: Vec<LooseTransition>,
+    found: PartFindings,
+) -> Result<FoundPart, AllocError>
+    requires { IsInOrder (state_at machine.now) }
+    ensures { IfOk result (λ part. FoundStandsForAll (class_in classes.now) machine.now.code (state_at machine.now) found → IsPart (class_in classes.now) machine.now.code (state_at machine.now) part) }
+{
+    if actors.len() < 2 {
+        return Ok(FoundPart { actors, found });
+    }
+    let mut found = found;
+    leave_out_repeats(room, classes, machine, &mut found)?;
+    Ok(FoundPart { actors, found })
+}
+
+// The part of an actor: he alone, or he with those of the parts so far from which he isn't apart. These are taken out. Those who were there
+// before stay first, so that the way that is kept of several takes events as they wait, as walks do.
 #[cycle(find)]
 fn part_of(
     room: &mut PartsRoom,
@@ -148,8 +162,11 @@ fn part_of(
             None => return Ok(None),
         };
         match take_meeting(parts, &found) {
-            Some(other) => actors.extend_from_slice(&other.actors)?,
-            None => return Ok(Some(FoundPart { actors, found })),
+            Some(other) => actors = with_behind(room.alloc, &other.actors, &actors)?,
+            None => {
+                let part = part_with(room, classes, machine, actors, found)?;
+                return Ok(Some(part));
+            }
         }
     }
     Ok(None)

@@ -4,12 +4,13 @@ ghost use Rattle.std.specs.List.{All};
 ghost use Rattle.certificates.specs.Apart.{SayApart};
 ghost use Rattle.looseparts.specs.PartLaws.{HaveEachBehind, SayAllApart};
 ghost use Rattle.looseparts.specs.FoundWays.{ways_in};
-ghost use Rattle.looseparts.specs.FoundParts.{IsAddedBehind, IsPutTogether};
+ghost use Rattle.looseparts.specs.FoundParts.{AreAdded, IsPutBehind, IsPutTogether};
 
 use certificates::apart::apart;
 use certificates::note::StepNote;
 use loose::transition::LooseTransition;
 use std::alloc::{AllocError, Global};
+use std::mem;
 
 // The most ways that are found of some actors. More are dear to follow, and mostly of races with effect.
 const MOST_WAYS: usize = 256;
@@ -30,15 +31,8 @@ pub(crate) struct FoundPart {
     pub(crate) found: PartFindings,
 }
 
-/// The note of an actor's step, and what was found behind it.
-#[derive(Drop)]
-pub(crate) struct Followed {
-    pub(crate) note: StepNote,
-    pub(crate) behind: PartFindings,
-}
-
-// A way, with another behind it.
-fn with_behind(
+/// A way, or other actors in a row, with others behind them.
+pub(crate) fn with_behind(
     alloc: Global,
     way: &[LooseTransition],
     behind: &[LooseTransition],
@@ -66,17 +60,6 @@ fn add_each_behind(
     Ok(())
 }
 
-// Appends ways.
-fn add_ways(
-    alloc: Global,
-    ways: &mut Vec<Vec<LooseTransition>>,
-    others: &[Vec<LooseTransition>],
-) -> Result<(), AllocError>
-    ensures { OnOk result (ways_in ways.new.items ≡ ways_in ways.old.items ++ ways_in others.now) }
-{
-    add_each_behind(alloc, ways, &[], others)
-}
-
 // Each of these ways with each of the others behind it.
 fn products(
     alloc: Global,
@@ -92,13 +75,17 @@ fn products(
     Ok(ways)
 }
 
-// Appends notes.
-fn add_notes(notes: &mut Vec<StepNote>, others: Vec<StepNote>) -> Result<(), AllocError>
-    ensures { OnOk result (notes.new.items ≡ notes.old.items ++ others.items) }
+/// Appends a note, and leaves another in its place, which has nothing in it.
+pub(crate) fn move_note(
+    alloc: Global,
+    notes: &mut Vec<StepNote>,
+    note: &mut StepNote,
+) -> Result<(), AllocError>
+    ensures { OnOk result (notes.new.items ≡ notes.old.items ++ note.old ∷ []) }
 {
-    for other in others {
-        notes.push(other)?;
-    }
+    let empty = StepNote::new(alloc, note.owner);
+    let moved = mem::replace(note, empty);
+    notes.push(moved)?;
     Ok(())
 }
 
@@ -160,20 +147,33 @@ impl PartFindings {
         Ok(found)
     }
 
-    /// Adds the step of an actor, with what was found behind it.
-    pub(crate) fn add_followed(
+    /// Puts the step of an actor, which has these notes, before all that was found.
+    pub(crate) fn put_behind(
         &mut self,
         alloc: Global,
         actor: LooseTransition,
-        next: Followed,
+        notes: &mut Vec<StepNote>,
     ) -> Result<(), AllocError>
-        ensures { OnOk result (IsAddedBehind self.old actor next self.new) }
+        ensures { OnOk result (IsPutBehind actor notes.old.items self.old self.new) }
     {
-        let Followed { note, behind } = next;
-        add_each_behind(alloc, &mut self.ways, &[actor], &behind.ways)?;
-        add_each_behind(alloc, &mut self.ends, &[actor], &behind.ends)?;
-        self.notes.push(note)?;
-        add_notes(&mut self.notes, behind.notes)
+        let mut ways = Vec::new(alloc);
+        add_each_behind(alloc, &mut ways, &[actor], &self.ways)?;
+        let mut ends = Vec::new(alloc);
+        add_each_behind(alloc, &mut ends, &[actor], &self.ends)?;
+        self.notes.append(notes)?;
+        self.ways = ways;
+        self.ends = ends;
+        Ok(())
+    }
+
+    /// Adds what was found where another actor steps first.
+    pub(crate) fn add_all(&mut self, next: &mut PartFindings) -> Result<(), AllocError>
+        ensures { OnOk result (AreAdded self.old next.old self.new) }
+    {
+        self.ways.append(&mut next.ways)?;
+        self.ends.append(&mut next.ends)?;
+        self.notes.append(&mut next.notes)?;
+        Ok(())
     }
 
     /// Puts what was found of others behind it, where all steps of both are apart and they have few ways together. Answers whether it
@@ -181,9 +181,9 @@ impl PartFindings {
     pub(crate) fn add_part(
         &mut self,
         alloc: Global,
-        other: PartFindings,
+        other: &mut PartFindings,
     ) -> Result<bool, AllocError>
-        ensures { IfOk result (λ done. done ≡ true → IsPutTogether self.old other self.new) }
+        ensures { IfOk result (λ done. done ≡ true → IsPutTogether self.old other.old self.new) }
     {
         if self.ways.len().saturating_mul(other.ways.len()) > MOST_WAYS {
             return Ok(false);
@@ -191,9 +191,9 @@ impl PartFindings {
         if !are_all_apart(&self.notes, &other.notes) {
             return Ok(false);
         }
+        self.ends.append(&mut other.ends)?;
+        self.notes.append(&mut other.notes)?;
         self.ways = products(alloc, &self.ways, &other.ways)?;
-        add_ways(alloc, &mut self.ends, &other.ends)?;
-        add_notes(&mut self.notes, other.notes)?;
         Ok(true)
     }
 }

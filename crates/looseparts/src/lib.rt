@@ -5,7 +5,9 @@
 //! 2. `found` is what was found of some actors: ways, and the notes of all their steps. It is put together from steps, and from parts.
 //! 3. `find` runs each actor alone, with all whom it wakes. Actors whose steps aren't apart become one part, of which each is followed
 //!    first, and so on.
-//! 4. `parts` begins that with all who wait.
+//! 4. `repeats` leaves out ways that print the same as another and lead to a state that is alike, so that a race without an effect is one
+//!    way.
+//! 5. `parts` begins that with all who wait.
 //!
 //! What the layer above uses: `ways_by_parts`, whose contract is that its ways cover whatever leads on from where the machine stands. The
 //! definitions stand in `specs/`, and `laws` carries what is proved of them besides.
@@ -16,6 +18,7 @@ mod find;
 mod found;
 pub mod laws;
 mod parts;
+mod repeats;
 mod room;
 
 pub use parts::{CoveringWays, ways_by_parts};

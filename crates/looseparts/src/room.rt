@@ -1,5 +1,9 @@
 //! What ways are found in.
+use certificates::note::StepNote;
+use loose::transition::LooseTransition;
+use statekeys::Scratch;
 use std::alloc::Global;
+use std::mem;
 use turn::TurnLog;
 
 // The most steps that are taken from one state, in all ways together: as many as the events of one certified run.
@@ -11,13 +15,16 @@ const STEPS_OF_A_STATE: usize = 8;
 // How many steps are worth a try, for each actor who waits.
 const STEPS_OF_AN_ACTOR: usize = 32;
 
-/// What ways are found in, one state after another: the log of turns, how many steps may still be taken from a state, and how many may be
-/// spent where no ways are found.
+/// What ways are found in, one state after another: the log of turns, the note of the last step, room in which keys are made, how many
+/// steps may still be taken from a state, how many to go ways again, and how many may be spent where no ways are found.
 #[derive(Drop)]
 pub struct PartsRoom {
     pub(crate) alloc: Global,
     pub(crate) log: TurnLog,
+    pub(crate) note: StepNote,
+    pub(crate) scratch: Scratch,
     steps: usize,
+    again: usize,
     spare: usize,
 }
 
@@ -27,7 +34,10 @@ impl PartsRoom {
         PartsRoom {
             alloc,
             log: TurnLog::new(alloc),
+            note: StepNote::new(alloc, LooseTransition::Process(0)),
+            scratch: Scratch::new(alloc),
             steps: 0,
+            again: 0,
             spare: MOST_STEPS,
         }
     }
@@ -37,6 +47,7 @@ impl PartsRoom {
     pub(crate) fn permit(&mut self, actors: usize) -> bool {
         self.spare = self.spare.saturating_add(STEPS_OF_A_STATE).min(MOST_STEPS);
         self.steps = self.spare;
+        self.again = self.spare;
         self.spare >= actors.saturating_mul(STEPS_OF_AN_ACTOR).min(MOST_STEPS)
     }
 
@@ -47,6 +58,12 @@ impl PartsRoom {
         }
         self.steps -= 1;
         true
+    }
+
+    /// Has the next steps counted among those that may be taken to go ways again, of which there are as many; or no longer. So no ways are
+    /// given up because others were gone again.
+    pub(crate) fn exchange_steps(&mut self) {
+        mem::swap(&mut self.steps, &mut self.again);
     }
 
     /// Tells that no ways were found: the steps that were taken are spent.

@@ -1,5 +1,5 @@
 -- A walk goes on by a way that stands for all, or goes back to its checkpoint and on by its moves since.
-use Rattle.std.proofs.Common.{◌≡◌, ◌≤◌, ℕ, ◌+◌, Bool, true, List, ◌++◌, Option, Some, None, Result, Ok, Err, refl, sym, ap, subst, ◌∙◌, append_assoc, arith, length-append}
+use Rattle.std.proofs.Common.{◌≡◌, ◌≤◌, ℕ, Bool, true, List, [], ◌++◌, Option, Some, None, Result, Ok, Err, refl, sym, ap, subst, ◌∙◌, append_assoc, arith, length-append}
 use Rattle.std.specs.Prelude.{IfSome, IfOk, OnOk, IsOk}
 use Rattle.model.specs.declared.end.Limits.{Limits}
 use Rattle.model.specs.States.{State}
@@ -7,7 +7,11 @@ use Rattle.model.specs.Runs.{Effect, joined}
 use Rattle.orders.specs.Alike.{IsInOrder}
 use Rattle.design.specs.Compiled.{Compiled, design_of}
 use Rattle.regions.specs.declared.state.MadeEvent.{MadeEvent}
-use Rattle.regions.specs.Machine.{MachineView}
+use Rattle.regions.specs.Machine.{MachineView, state_at}
+use Rattle.combinational.specs.declared.network.Network.{Network}
+use Rattle.settling.specs.declared.begin.Begin.{Begin}
+use Rattle.settling.specs.Settling.{IsPhaseOf, MayBeHeld}
+use Rattle.settling.specs.Settled.{IsBeginOf, HasComeToRest}
 use Rattle.loose.specs.declared.transition.LooseTransition.{LooseTransition}
 use Rattle.looseruns.specs.LooseMoves.{AreTimelyMoves}
 use Rattle.looseruns.specs.LooseGoing.{GoesLooselyTo}
@@ -34,6 +38,12 @@ ok_gives (Err e) P ok h = cc
 pub found_there : {V : Type 0} (o : Option V) (v : V) (Has : V → Type 0) → o ≡ Some v → IfSome o Has → Has v
 found_there o v Has is h = subst (λ p. IfSome p Has) is h
 
+-- what follows from two facts of what was found holds of it
+pub both_found : {V E : Type 0} (r : Result (Option V) E) (P Q R : V → Type 0) → ((v : V) → P v → Q v → R v) → IfOk r (λ o. IfSome o P) → IfOk r (λ o. IfSome o Q) → IfOk r (λ o. IfSome o R)
+both_found (Ok (Some v)) P Q R f p q = f v p q
+both_found (Ok None) P Q R f p q = tt
+both_found (Err e) P Q R f p q = tt
+
 -- an option has what it has
 pub itself : {V : Type 0} (o p : Option V) → o ≡ p → IfSome p (λ v. o ≡ Some v)
 itself o None is = tt
@@ -41,6 +51,18 @@ itself o (Some v) is = is
 
 pub none_there : {V : Type 0} (o : Option V) (Has : V → Type 0) → o ≡ None → IfSome o Has
 none_there o Has is = subst (λ p. IfSome p Has) (sym is) tt
+
+-- a machine has come to rest from where a phase began, and from where processes were held
+
+pub phase_rests : (begin : Begin) (start end : MachineView) (network : Network) (members : List ℕ) → IsBeginOf start begin → IsPhaseOf start.code (state_at start) network members → start.code ≡ end.code → (state_at end).time ≡ (state_at start).time
+    → (state_at end).active ≡ [] → HasComeToRest begin start end network members
+phase_rests begin start end network members begins phase code time over =
+    record { begins = begins; blocks = phase.blocks; stands = phase.stands; code = code; time = time; over = over }
+
+pub held_rests : (begin : Begin) (start end : MachineView) (network : Network) (members : List ℕ) → IsBeginOf start begin → MayBeHeld start.code (state_at start) network members → start.code ≡ end.code → (state_at end).time ≡ (state_at start).time
+    → (state_at end).active ≡ [] → HasComeToRest begin start end network members
+held_rests begin start end network members begins may code time over =
+    record { begins = begins; blocks = may.blocks; stands = may.stands; code = code; time = time; over = over }
 
 -- a copy of a machine has come where that has, and is of its design
 pub copied_come : {V E : Type 0} (value : V → MachineView) (r : Result V E) (m : MachineView) (walk : Walk) (moves : List LooseTransition) → moves ≡ moves_of walk → IfOk r (λ copy. value copy ≡ m) → IfOk r (λ copy. HasCome m walk (value copy) moves)

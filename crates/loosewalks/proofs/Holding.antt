@@ -16,11 +16,12 @@ use Rattle.orders.specs.Alike.{IsInOrder}
 use Rattle.phases.specs.Phase.{IsActive}
 use Rattle.design.specs.Compiled.{Compiled, design_of}
 use Rattle.regions.specs.Machine.{MachineView, state_at}
-use Rattle.phases.specs.Phase.{Block, IsTurnPending, IsBlockWaiting, HasSettled, IsOutput}
+use Rattle.phases.specs.Phase.{Block, SettleBetween, IsOutput}
 use Rattle.combinational.specs.declared.block.Logic.{Logic}
 use Rattle.combinational.specs.declared.network.Network.{Network}
 use Rattle.combinational.specs.Found.{rank_in}
-use Rattle.settling.specs.Settling.{block_or, block_at, MayBeHeld}
+use Rattle.settling.specs.Settling.{block_or, block_at, ArePendingOrSettled, MayBeHeld}
+use Rattle.settling.proofs.Phases.{settled_so}
 use Rattle.loose.specs.declared.transition.LooseTransition.{LooseTransition}
 use Rattle.loose.specs.declared.transition.LooseTransition.TheVariants.{Process, FirstOf, Change}
 use Rattle.loose.specs.Loose.{loose_transition_of, loose_transition_of_action}
@@ -42,7 +43,8 @@ use Rattle.noted.specs.NotedSteps.{IsEntryNoted, note_of}
 use Rattle.loosewalks.specs.declared.active.NamedEntry.{NamedEntry}
 use Rattle.loosewalks.specs.EventWays.{AreOfActors}
 use Rattle.loosewalks.specs.LooseWalking.{IsEventStep, IsSoleLooseWay, TakenLoosely}
-use Rattle.loosewalks.specs.Held.{HasConeAt, NoteKeepsOff, KeptOff, HasAddedHeldNote, AreNotesOf, AreOthersSteps, TakesOthers, HasHeld}
+use Rattle.loosewalks.specs.Held.{HasConeAt, NoteKeepsOff, KeptOff, HasAddedHeldNote, AreNotesOf, AreOthersSteps, TakesOthers, HasHeld, HasHeldUntilSettled}
+use Rattle.loosewalks.proofs.PhaseWays.{way_time}
 use Rattle.loosewalks.proofs.Walks.{takes_none, takes_more, some_moves}
 use Rattle.loosewalks.proofs.Certifying.{tell_more, one_transition}
 
@@ -156,16 +158,12 @@ module _ (old new : MachineView) (network : Network) (held : List ℕ) where
         goes_on = may.goes_on;
         exist = may.exist;
         blocks = may.blocks;
-        stands = λ p member. waiting p (may.stands p member);
+        stands = may.stands;
         single = may.single;
         updates = may.updates;
         order = may.order;
         others = may.others;
       }
-    where
-      waiting : (p : ℕ) → IsTurnPending s p (blocks p) ⊎ HasSettled (design_of old.code) s p (blocks p) → IsTurnPending s p (blocks p) ⊎ IsBlockWaiting s p (blocks p)
-      waiting p (inl h) = inl h
-      waiting p (inr (none, continuation, consistent)) = inr (none, continuation)
 
   cone_on : (touched cone pending : List ℕ) (p q r : ℕ) → HasConeAt network pending touched cone p → contains (blocks p).inputs q ≡ true → (contains touched q ≡ true) ⊎ (contains cone q ≡ true) → contains (blocks p).outputs r ≡ true → contains cone r ≡ true
   cone_on touched cone pending p q r at input there out =
@@ -237,18 +235,28 @@ module _ (old new : MachineView) (network : Network) (held : List ℕ) where
     take_events (FirstOf c ∷ way) actors = take_events way actors
     take_events (Change entry ∷ way) actors = absurd actors
 
-    pub held_sole : s.active ≢ [] → IsSoleLooseWay class limits old moves new
-    held_sole some =
+    pub held_sole : s.active ≢ [] → ((state_at new).time ≡ s.time → SettleBetween (design_of old.code) held blocks s (state_at new)) → IsSoleLooseWay class limits old moves new
+    held_sole some settle =
         record {
           taken = done.passed.takes.taken;
           sole = λ like.
               let come : IsReachedLoosely class (design_of old.code) like.effect.state = (like.journal, like.effect, like.reached, refl) in
               let near : IsLikeLooselyReached class (design_of old.code) s = record { comes_to = like.effect.state; reached = come; alike = like.alike } in
               let taken : TakenLoosely class limits old moves new = done.passed.takes.taken like.order in
+              let time : (state_at new).time ≡ s.time =
+              ap (λ (t : State). t.time) taken.state_is ∙ way_time class (design_of old.code) limits s taken.effect moves like.order done.passed.takes.actors taken.goes in
+              let settled : SettleBetween (design_of old.code) held blocks s taken.effect.state = subst (λ (t : State). SettleBetween (design_of old.code) held blocks s t) taken.state_is (settle time) in
               let (covers, goes_on) =
               held_way_covers class (design_of old.code) limits held blocks (rank_in network.ranks.items) s taken.effect moves near (certified_way like.order)
               (some_moves class limits old new moves like.order done.passed.takes some done.passed.over) (take_events moves done.passed.takes.actors) taken.goes (ap (λ (t : State). t.active) (sym taken.state_is) ∙ done.passed.over)
-              (λ p member. inl (done.may.stands p member)) in
+              settled in
               record { covers = covers; goes_on = goes_on };
           count = done.passed.takes.count;
         }
+
+  -- what was pending or settled settles
+  pub settled_before : ArePendingOrSettled old.code s network held → SettleBetween (design_of old.code) held blocks s (state_at new)
+  settled_before each p member = inl (settled_so old.code s network p (each p member))
+
+  pub settled_sole : (class : ℕ → ℕ) (limits : Limits) (moves : List LooseTransition) → HasHeldUntilSettled class limits old network held moves new → s.active ≢ [] → IsSoleLooseWay class limits old moves new
+  settled_sole class limits moves done some = held_sole class limits moves done.through some done.settle

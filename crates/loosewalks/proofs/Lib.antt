@@ -1,6 +1,7 @@
 -- The proofs of walks of loose runs.
 pub mod SoleLooseWays
 pub mod OnlyEntries
+pub mod TimeKept
 pub mod PhaseWays
 pub mod CertifiedWays
 pub mod ActiveEntries

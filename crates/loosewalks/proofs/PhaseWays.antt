@@ -33,6 +33,7 @@ use Rattle.looseruns.proofs.Moves.{move_is_loose_step}
 use Rattle.loosewalks.specs.Sole.{StandsForAllLoosely}
 use Rattle.loosewalks.specs.EventWays.{AreOfActors, PhaseWayStandsForAll}
 use Rattle.loosewalks.proofs.SoleLooseWays.{one_is}
+use Rattle.loosewalks.proofs.TimeKept.{events_keep_time}
 
 -- transitions up to the first change of the regions
 
@@ -97,6 +98,12 @@ come_of_events class design (t ∷ ts) e f order actors is =
       All-cons TakesEvent entry entries (takes_event class e.state entry t actor its) take,
       then_some (λ y. loose_run_from class design (joined e y) entries) (loose_step class design e.state entry) x f step run,
     ))
+
+-- no time passes on such a way
+pub way_time : (class : ℕ → ℕ) (design : Design) (limits : Limits) (s : State) (g : Effect) (way : List LooseTransition) → IsInOrder s → AreOfActors way → GoesLooselyTo class design limits s way g → g.state.time ≡ s.time
+way_time class design limits s g way order actors goes =
+    let (entries, take, run) = come_of_events class design way (silent s) goes.effect order actors goes.goes in
+    sym goes.one_node.1.time ∙ events_keep_time class design entries (silent s) goes.effect order take run
 
 -- what transitions lead to, in two parts
 abbrev LeadThrough : (ℕ → ℕ) → Design → Effect → List LooseTransition → List LooseTransition → Effect → Type 0
@@ -172,13 +179,6 @@ module _ (class : ℕ → ℕ) (design : Design) (limits : Limits) (members : Li
   some_part s (t ∷ part) f begins over some = omega arith
 
   module _ (s : State) (g : Effect) (way : List LooseTransition) (order : IsInOrder s) (phase : IsPhase design s members block rank) (some : way ≢ []) (actors : AreOfActors way) (goes : GoesLooselyTo class design limits s way g) (over : g.state.active ≡ []) where
-    -- no time passes on the way
-    pub way_time : g.state.time ≡ s.time
-    way_time =
-        let (others, take, run) = come_of_events class design way (silent s) goes.effect order actors goes.goes in
-        let (lines, order', phase', stays, stand) = phase_runs_from class design members block rank others (silent s) goes.effect order phase take run in
-        sym goes.one_node.1.time ∙ stays.time
-
     some_active : s.active ≡ [] → ⊥
     some_active none = something_moves class design way s goes.effect some actors goes.goes none
 

@@ -233,7 +233,7 @@ phase_sole class limits old new moves network members phase some through =
           let over : taken.effect.state.active ≡ [] = ap (λ (t : State). t.active) (sym taken.state_is) ∙ passed.over in
           let time : (state_at new).time ≡ (state_at old).time =
           ap (λ (t : State). t.time) taken.state_is
-          ∙ way_time class (design_of old.code) limits members (block_at old.code network) (rank_in network.ranks.items) (state_at old) taken.effect moves like.order phase more passed.takes.actors taken.goes over in
+          ∙ way_time class (design_of old.code) limits (state_at old) taken.effect moves like.order passed.takes.actors taken.goes in
           let settle : SettleBetween (design_of old.code) members (block_at old.code network) (state_at old) taken.effect.state =
           subst (λ (t : State). SettleBetween (design_of old.code) members (block_at old.code network) (state_at old) t) taken.state_is (through.settle phase time) in
           phase_way_stands_for_all class (design_of old.code) limits members (block_at old.code network) (rank_in network.ranks.items) (state_at old) taken.effect moves like.order phase more passed.takes.actors taken.goes over

@@ -5,14 +5,14 @@ use Rattle.std.specs.List.{All}
 use Rattle.model.specs.declared.end.Limits.{Limits}
 use Rattle.model.specs.Turns.{contains}
 use Rattle.orders.specs.Alike.{IsInOrder}
-use Rattle.phases.specs.Phase.{IsActive}
+use Rattle.phases.specs.Phase.{IsActive, SettleBetween}
 use Rattle.design.specs.Compiled.{design_of}
 use Rattle.combinational.specs.declared.block.Logic.{Logic}
 use Rattle.combinational.specs.declared.network.Network.{Network}
 use Rattle.regions.specs.declared.queue.Evaluation.{Evaluation}
 use Rattle.regions.specs.Machine.{MachineView, state_at}
 use Rattle.regions.specs.StepLogs.{IsTaken}
-use Rattle.settling.specs.Settling.{MayBeHeld, HaveOutputs}
+use Rattle.settling.specs.Settling.{block_at, MayBeHeld, HaveOutputs}
 use Rattle.settling.specs.Waiting.{WaitsForNone}
 use Rattle.loose.specs.declared.transition.LooseTransition.{LooseTransition}
 use Rattle.traces.specs.Traces.{IsRunOfMoves}
@@ -115,3 +115,10 @@ pub record HasHeld (class : ℕ → ℕ) (limits : Limits) (old : MachineView) (
   pub active : (p : ℕ) → IsActive (state_at old) p → contains pending p ≡ true
   pub off : KeptOff network held pending notes
   pub passed : HasPassedBy class limits old moves new
+
+-- a machine did so, and what is held settles from where it stood to where it stands, if it is the same time
+pub record HasHeldUntilSettled (class : ℕ → ℕ) (limits : Limits) (old : MachineView) (network : Network) (held : List ℕ) (moves : List LooseTransition) (new : MachineView) : Type 0 where
+  pub through : HasHeld class limits old network held moves new
+  pub settle :
+      (state_at new).time ≡ (state_at old).time
+      → SettleBetween (design_of old.code) held (block_at old.code network) (state_at old) (state_at new)

@@ -9,7 +9,7 @@ ghost use Rattle.regions.specs.Machine.{state_at};
 
 use crate::certified::take_certified;
 use crate::checkpoint::{Walk, roll_back};
-use crate::held::{held_members, take_held};
+use crate::held::{held_among, more_members, settled_members, take_held, take_held_until_settled};
 use crate::phase::{have_logic, take_phase};
 use crate::room::{LooseRoom, WalkScope};
 use model::end::Limits;
@@ -24,14 +24,19 @@ pub(crate) enum WayThrough {
     Phase,
     /// By events whose notes certify it.
     Certified,
-    /// By such events while combinational processes are held, and then by the events of these.
+    /// By such events while combinational processes are held that are pending or have settled, and then by the events of these.
+    HeldSettled,
+    /// Likewise, where those are held too that wait though their turns would change something.
     Held,
+    /// Likewise, where those are left out of the processes that were held last that steps of others met, or that didn't settle.
+    HeldRest,
 }
 
 // The processes with which a way may be tried where a machine stands: the members of a phase, those that are held, or none where the notes
-// certify. None where it may not be tried.
+// certify. None where it may not be tried, or was already with the same that are held.
 fn members_for(
     scope: WalkScope<'_>,
+    room: &LooseRoom,
     machine: &Machine<'_>,
     way: WayThrough,
 ) -> Result<Option<Vec<u32>>, AllocError>
@@ -46,7 +51,9 @@ fn members_for(
             phase_of(scope.alloc, machine, scope.network)
         }
         WayThrough::Certified => Ok(Some(Vec::new(scope.alloc))),
-        WayThrough::Held => held_members(scope, machine),
+        WayThrough::HeldSettled => settled_members(scope, machine),
+        WayThrough::Held => more_members(scope, room.tried, machine),
+        WayThrough::HeldRest => held_among(scope, machine, room.rest.as_slice()),
     }
 }
 
@@ -68,14 +75,9 @@ fn take_way(
     match way {
         WayThrough::Phase => take_phase(scope, members, &mut room.way, machine),
         WayThrough::Certified => take_certified(machine, scope.classes, room),
-        WayThrough::Held => take_held(
-            scope.alloc,
-            scope.network,
-            scope.classes,
-            members,
-            room,
-            machine,
-        ),
+        WayThrough::HeldSettled => take_held(scope, members, room, machine),
+        WayThrough::Held => take_held_until_settled(scope, members, room, machine),
+        WayThrough::HeldRest => take_held_until_settled(scope, members, room, machine),
     }
 }
 
@@ -105,7 +107,7 @@ pub(crate) fn go_by<'d>(
     if !machine.state().is_active() {
         return Ok(false);
     }
-    let members = match members_for(scope, machine, way)? {
+    let members = match members_for(scope, room, machine, way)? {
         Some(members) => members,
         None => return Ok(false),
     };

@@ -1,5 +1,5 @@
-//! What is held keeps its outputs to itself: the registers that what is pending of it may still change, and whether steps of others keep
-//! off these.
+//! What is held keeps its outputs to itself: the registers that what is pending of it may still change, whether steps of others keep off
+//! these, and which of the held processes they meet.
 ghost use Rattle.std.specs.Prelude.{◌≡◌, ℕ, not, true, IfOk};
 ghost use Rattle.std.specs.List.{All, list_any};
 ghost use Rattle.model.specs.Turns.{contains};
@@ -204,4 +204,46 @@ pub(crate) fn keep_off(
         return Ok(false);
     }
     Ok(notes_keep_off(notes, &outputs, &cone, &touched))
+}
+
+// Whether a step uses one of these outputs that is in a cone, writes one, or goes on to wait for one.
+fn meets(note: &StepNote, outputs: &[RegId], cone: &[RegId]) -> bool {
+    if share(note.writes.as_slice(), outputs) || is_any_awaited(&note.awaits, outputs) {
+        return true;
+    }
+    let uses = note.uses.as_slice();
+    outputs.iter().any(|register| is_among(cone, *register) && is_among(uses, *register))
+}
+
+// Whether one of these steps does.
+fn is_met(notes: &[StepNote], outputs: &[RegId], cone: &[RegId]) -> bool {
+    for note in notes {
+        if meets(note, outputs, cone) {
+            return true;
+        }
+    }
+    false
+}
+
+/// Those of the processes that are held which no step of others meets, where one meets another of them; and none where no step meets one. A
+/// way while they alone are held may stand for all. That is tried, and so no clause says which they are.
+pub(crate) fn unmet_by(
+    alloc: Global,
+    network: &Network,
+    held: &[u32],
+    pending: &[u32],
+    notes: &[StepNote],
+) -> Result<Vec<u32>, AllocError> {
+    let touched = touched_by(alloc, notes)?;
+    let cone = cone_of(alloc, network, held, pending, &touched)?;
+    let mut unmet = Vec::new(alloc);
+    for process in held {
+        if !is_met(notes, outputs_at(network, *process), &cone) {
+            unmet.push(*process)?;
+        }
+    }
+    if unmet.len() == held.len() {
+        unmet.clear();
+    }
+    Ok(unmet)
 }

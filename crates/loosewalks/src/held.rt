@@ -1,23 +1,24 @@
 //! A way of a walk through all that is active, in which combinational processes are held until the others are done.
 ghost use Rattle.std.specs.Prelude.{◌≡◌, true, IfOk, IfSome};
-ghost use Rattle.settling.specs.Settling.{MayBeHeld};
+ghost use Rattle.settling.specs.Settling.{ArePendingOrSettled, AreSomeOf, MayBeHeld};
 ghost use Rattle.loose.specs.Classes.{class_in};
 ghost use Rattle.model.specs.Turns.{contains};
 ghost use Rattle.model.specs.declared.end.Limits.{Limits};
 ghost use Rattle.combinational.specs.Found.{IsNetworkOf};
-ghost use Rattle.loosewalks.specs.Held.{HasAddedHeldNote, HasTakenOthers, HasHeld};
+ghost use Rattle.loosewalks.specs.Held.{HasAddedHeldNote, HasTakenOthers, HasHeld, HasHeldUntilSettled};
 ghost use Rattle.noted.specs.NotedSteps.{IsOfOther};
 ghost use Rattle.regions.specs.Machine.{state_at};
 
 use crate::active::{NamedEntry, first_other};
 use crate::certified::add_noted;
-use crate::cone::keep_off;
+use crate::cone::{keep_off, unmet_by};
 use crate::phase::take_on;
 use crate::room::{LooseRoom, WalkScope};
-use combinational::Network;
 use noted::take_noted_beside;
 use regions::Machine;
-use settling::{evaluated_processes, held_of};
+use settling::{
+    Begin, evaluated_processes, held_of, members_settled_since, settle_since, settled_of,
+};
 use std::alloc::{AllocError, Global};
 
 // The most events of others that a walk takes while processes are held.
@@ -77,41 +78,105 @@ fn take_others(
 /// Takes all that is active: what is held comes last. Answers whether it came to where nothing is active, and the steps of the others
 /// certify each other and keep off what is held.
 pub(crate) fn take_held(
-    alloc: Global,
-    network: &Network,
-    classes: &[u32],
+    scope: WalkScope<'_>,
     held: &[u32],
     room: &mut LooseRoom,
     machine: &mut Machine<'_>,
 ) -> Result<bool, AllocError>
-    ensures done { IfOk result (λ all. all ≡ true → (limits : Limits) → MayBeHeld machine.old.code (state_at machine.old) network.now held.now → HasHeld (class_in classes.now) limits machine.old network.now held.now room.new.way.items machine.new) }
+    ensures done { IfOk result (λ all. all ≡ true → (limits : Limits) → MayBeHeld machine.old.code (state_at machine.old) scope.entry.network.now held.now → HasHeld (class_in scope.entry.classes.now) limits machine.old scope.entry.network.now held.now room.new.way.items machine.new) }
     ensures code { machine.new.code ≡ machine.old.code }
 {
     let (_, evaluations) = machine.state().active();
-    let pending = evaluated_processes(alloc, evaluations)?;
-    if !take_others(machine, classes, held, room)? {
+    let pending = evaluated_processes(scope.alloc, evaluations)?;
+    room.tried = held.len();
+    if !take_others(machine, scope.classes, held, room)? {
         return Ok(false);
     }
-    if !keep_off(alloc, network, held, &pending, room.certificate.notes())? {
+    let notes = room.certificate.notes();
+    if !keep_off(scope.alloc, scope.network, held, &pending, notes)? {
+        room.rest = unmet_by(scope.alloc, scope.network, held, &pending, notes)?;
         return Ok(false);
     }
-    let all = take_on(machine, classes, &mut room.way)?;
+    let all = take_on(machine, scope.classes, &mut room.way)?;
     Ok(all)
 }
 
-/// The processes that may be held until the others are done, where there are any.
-pub(crate) fn held_members(
+/// Takes all that is active likewise. Answers whether it came to where nothing is active, the steps of the others certify each other and keep
+/// off what is held, and what is held settles until there.
+pub(crate) fn take_held_until_settled(
     scope: WalkScope<'_>,
+    held: &[u32],
+    room: &mut LooseRoom,
+    machine: &mut Machine<'_>,
+) -> Result<bool, AllocError>
+    requires { IsNetworkOf machine.old.code scope.network.now }
+    ensures done { IfOk result (λ all. all ≡ true → (limits : Limits) → MayBeHeld machine.old.code (state_at machine.old) scope.entry.network.now held.now → HasHeldUntilSettled (class_in scope.entry.classes.now) limits machine.old scope.entry.network.now held.now room.new.way.items machine.new) }
+    ensures code { machine.new.code ≡ machine.old.code }
+{
+    let begin = Begin::of(scope.alloc, machine)?;
+    if !take_held(scope, held, room, machine)? {
+        return Ok(false);
+    }
+    if settle_since(scope.alloc, &begin, machine, scope.network, held)? {
+        return Ok(true);
+    }
+    room.rest = members_settled_since(scope.alloc, machine, scope.network, &begin, held)?;
+    Ok(false)
+}
+
+/// Those of these processes that may be held until the others are done, where there are any.
+pub(crate) fn held_among(
+    scope: WalkScope<'_>,
+    machine: &Machine<'_>,
+    among: &[u32],
+) -> Result<Option<Vec<u32>>, AllocError>
+    requires { IsNetworkOf machine.now.code scope.network.now }
+    ensures may { IfOk result (λ found. IfSome found (λ held. MayBeHeld machine.now.code (state_at machine.now) scope.entry.network.now held.items)) }
+    ensures subset { IfOk result (λ found. IfSome found (λ held. AreSomeOf held.items among.now)) }
+{
+    let held = match held_of(scope.alloc, machine, scope.network, among)? {
+        Some(held) => held,
+        None => return Ok(None),
+    };
+    if held.is_empty() {
+        return Ok(None);
+    }
+    Ok(Some(held))
+}
+
+// All processes of a design.
+fn every_process(alloc: Global, machine: &Machine<'_>) -> Result<Vec<u32>, AllocError> {
+    (0..machine.design().processes()).collect(alloc)
+}
+
+/// The processes that may be held, and are pending or settled, where there are any.
+pub(crate) fn settled_members(
+    scope: WalkScope<'_>,
+    machine: &Machine<'_>,
+) -> Result<Option<Vec<u32>>, AllocError>
+    requires { IsNetworkOf machine.now.code scope.network.now }
+    ensures { IfOk result (λ found. IfSome found (λ held. MayBeHeld machine.now.code (state_at machine.now) scope.entry.network.now held.items × ArePendingOrSettled machine.now.code (state_at machine.now) scope.entry.network.now held.items)) }
+{
+    let every = every_process(scope.alloc, machine)?;
+    let settled = settled_of(scope.alloc, machine, scope.network, &every)?;
+    held_among(scope, machine, &settled)
+}
+
+/// The processes that may be held, where they are more than were held last.
+pub(crate) fn more_members(
+    scope: WalkScope<'_>,
+    tried: usize,
     machine: &Machine<'_>,
 ) -> Result<Option<Vec<u32>>, AllocError>
     requires { IsNetworkOf machine.now.code scope.network.now }
     ensures { IfOk result (λ found. IfSome found (λ held. MayBeHeld machine.now.code (state_at machine.now) scope.entry.network.now held.items)) }
 {
-    let held = match held_of(scope.alloc, machine, scope.network)? {
+    let every = every_process(scope.alloc, machine)?;
+    let held = match held_among(scope, machine, &every)? {
         Some(held) => held,
         None => return Ok(None),
     };
-    if held.is_empty() {
+    if held.len() <= tried {
         return Ok(None);
     }
     Ok(Some(held))

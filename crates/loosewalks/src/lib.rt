@@ -8,7 +8,8 @@
 //! 4. `phase` goes through a phase of combinational processes, up to its end.
 //! 5. `certified` takes all that is active, where the notes of its steps certify that they stand for all.
 //! 6. `held` does so while combinational processes are held, where the steps of the others keep off these (`cone`), and takes the events
-//!    of these last.
+//!    of these last. Those are held alone at first that are pending or have settled; or else those too that wait though their turns would
+//!    change something, which then have to settle until the end; or else the rest without those that were in the way.
 //! 7. `walk` goes on so, up to the next choice or for some hundred steps, in the `room` that it keeps.
 //!
 //! The definitions stand in `specs/`: when one way stands for all (`Sole`), which ways through events do (`EventWays`), and what a walk

@@ -7,13 +7,16 @@ use model::end::Limits;
 use std::alloc::Global;
 use turn::TurnLog;
 
-/// What walks work in, one after another: the way that is tried, and the log, the note and the certificate of that.
+/// What walks work in, one after another: the way that is tried, and the log, the note and the certificate of that. A try with held processes
+/// leaves for the next one how many these were, and where some of them were in its way, the rest.
 #[derive(Drop)]
 pub struct LooseRoom {
     pub(crate) log: TurnLog,
     pub(crate) note: StepNote,
     pub(crate) certificate: Certificate,
     pub(crate) way: Vec<LooseTransition>,
+    pub(crate) tried: usize,
+    pub(crate) rest: Vec<u32>,
 }
 
 impl LooseRoom {
@@ -24,7 +27,15 @@ impl LooseRoom {
             note: StepNote::new(alloc, LooseTransition::Process(0)),
             certificate: Certificate::new(alloc),
             way: Vec::new(alloc),
+            tried: 0,
+            rest: Vec::new(alloc),
         }
+    }
+
+    /// Leaves nothing of the last try with held processes.
+    pub(crate) fn forget_held(&mut self) {
+        self.tried = 0;
+        self.rest.clear();
     }
 }
 

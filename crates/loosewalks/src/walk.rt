@@ -23,6 +23,15 @@ use std::alloc::{AllocError, Global};
 // all that is pending, and so it is done once in as many steps.
 const MOST_STEPS: usize = 256;
 
+// The ways that are tried, one after another, until one stands for all.
+const WAYS: [WayThrough; 5] = [
+    WayThrough::Phase,
+    WayThrough::Certified,
+    WayThrough::HeldSettled,
+    WayThrough::Held,
+    WayThrough::HeldRest,
+];
+
 // Takes the only entry, where there is one and the run has room for it, and answers its transition.
 fn step(
     classes: &[u32],
@@ -49,8 +58,8 @@ fn step(
     }
 }
 
-// Goes on by the only entry, or else through a phase, by a certified run or by one in which processes are held, where one of these stands
-// for all and the run has room for it. Answers whether it did.
+// Goes on by the only entry, or else by the first of the ways through what is active that stands for all and for which the run has room.
+// Answers whether it did.
 fn go_on<'d>(
     scope: WalkScope<'_>,
     room: &mut LooseRoom,
@@ -69,14 +78,13 @@ fn go_on<'d>(
         }
         None => {}
     }
-    if go_by(scope, room, walk, machine, WayThrough::Phase)? {
-        return Ok(true);
+    room.forget_held();
+    for way in WAYS {
+        if go_by(scope, room, walk, machine, way)? {
+            return Ok(true);
+        }
     }
-    if go_by(scope, room, walk, machine, WayThrough::Certified)? {
-        return Ok(true);
-    }
-    let gone = go_by(scope, room, walk, machine, WayThrough::Held)?;
-    Ok(gone)
+    Ok(false)
 }
 
 /// Goes on from where a machine stands as long as one way stands for all loose runs, and never past the most entries: for some hundred

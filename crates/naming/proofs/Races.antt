@@ -1,69 +1,83 @@
 -- Races that are told, one after another.
-use Rattle.std.proofs.Common.{◌≡◌, ◌∙◌, ap, sym, subst, ℕ, zero, suc, ◌+◌, ◌<◌, List, [], ◌∷◌, ◌++◌, length, take, get_or, append_assoc, Option, Result, Ok, Err, OnOk, refl, arith, add-one}
+use Rattle.std.proofs.Common.{◌≡◌, ◌∙◌, ap, sym, subst, ℕ, zero, suc, ◌+◌, ◌<◌, List, [], ◌∷◌, ◌++◌, drop, length, take, get_or, append_assoc, Option, Result, Ok, Err, OnOk, refl, arith, add-one}
 use Rattle.model.specs.declared.entry.Entry.{Entry}
 use Rattle.model.specs.declared.end.End.{End}
 use Rattle.design.specs.Compiled.{Compiled}
 use Rattle.explore.specs.declared.Shown.{Shown}
-use Rattle.runs.specs.declared.run.RunRecord.{RunRecord}
-use Rattle.races.specs.declared.told.Race as found_race
+use Rattle.races.specs.declared.causes.Causes.{Causes}
+use Rattle.races.specs.declared.told.Cause.{Cause}
 use Rattle.races.specs.declared.told.Found.{Found}
 use Rattle.races.specs.declared.told.RaceBounds.{RaceBounds}
 use Rattle.verdict.specs.declared.race.RaceDescription.{RaceDescription}
-use Rattle.verdict.specs.RaceLines.{race_text}
+use Rattle.verdict.specs.RaceLines.{race_text, unnamed_text}
 use Rattle.locations.specs.declared.location.ProcessLocation.{ProcessLocation}
 use Rattle.naming.specs.Begins.{AreProcessesOf}
-use Rattle.naming.specs.Naming.{AreRacesTold, IsRaceTold, TellsBehind, TellsEach, list_end_text, races_text}
+use Rattle.naming.specs.Naming.{AreEachTold, IsCauseTold, IsFoundTold, TellsBehind, TellsEach, TellsMoreBehind, list_end_text, races_text, unnamed_lines}
 
-text_one : (t : RaceDescription) → races_text (t ∷ []) ≡ race_text t
-text_one t = none_more (race_text t)
-  where
-    none_more : (xs : List ℕ) → xs ++ [] ≡ xs
-    none_more [] = refl
-    none_more (x ∷ xs) = ap (λ ys. x ∷ ys) (none_more xs)
+pub none_more : (xs : List ℕ) → xs ++ [] ≡ xs
+none_more [] = refl
+none_more (x ∷ xs) = ap (λ ys. x ∷ ys) (none_more xs)
 
 -- the lines on one race more
 pub text_more : (ts : List RaceDescription) (t : RaceDescription) → races_text (ts ++ t ∷ []) ≡ races_text ts ++ race_text t
-text_more [] t = text_one t
+text_more [] t = none_more (race_text t)
 text_more (u ∷ us) t = ap (λ l. race_text u ++ l) (text_more us t) ∙ sym (append_assoc (race_text u) (races_text us) (race_text t))
 
--- one race more is told
-pub told_more : (begins : List ProcessLocation) (code : Compiled) (shown : List (Shown Entry End)) (prefix : Option (List ℕ)) (original : RunRecord) (n i : ℕ) (rs : List found_race.Race) (d : found_race.Race) (ts : List RaceDescription) (t : RaceDescription) → i < length rs
-    → AreRacesTold begins code shown prefix original n (take i rs) ts → IsRaceTold begins code shown prefix original (n + i) (get_or rs i d) t
-    → AreRacesTold begins code shown prefix original n (take (suc i) rs) (ts ++ t ∷ [])
-told_more begins code shown prefix original n i [] d ts t lt all one = absurd (omega (arith, lt))
-told_more begins code shown prefix original n zero (r ∷ rs) d [] t lt all one =
-    (subst (λ k. IsRaceTold begins code shown prefix original k r t) (omega arith) one, tt)
-told_more begins code shown prefix original n zero (r ∷ rs) d (u ∷ us) t lt all one = absurd all
-told_more begins code shown prefix original n (suc i) (r ∷ rs) d [] t lt all one = absurd all
-told_more begins code shown prefix original n (suc i) (r ∷ rs) d (u ∷ us) t lt (head, all) one =
-    (head, told_more begins code shown prefix original (n + 1) i rs d us t (omega (arith, lt)) all (subst (λ k. IsRaceTold begins code shown prefix original k (get_or rs i d) t) (omega arith) one))
+-- one more is told
+pub told_more : {X : Type 0} (IsTold : ℕ → X → RaceDescription → Type 0) (n i : ℕ) (xs : List X) (d : X) (ts : List RaceDescription) (t : RaceDescription) → i < length xs
+    → AreEachTold IsTold n (take i xs) ts → IsTold (n + i) (get_or xs i d) t → AreEachTold IsTold n (take (suc i) xs) (ts ++ t ∷ [])
+told_more IsTold n i [] d ts t lt all one = absurd (omega (arith, lt))
+told_more IsTold n zero (x ∷ xs) d [] t lt all one = (subst (λ k. IsTold k x t) (omega arith) one, tt)
+told_more IsTold n zero (x ∷ xs) d (u ∷ us) t lt all one = absurd all
+told_more IsTold n (suc i) (x ∷ xs) d [] t lt all one = absurd all
+told_more IsTold n (suc i) (x ∷ xs) d (u ∷ us) t lt (head, all) one =
+    (head, told_more IsTold (n + 1) i xs d us t (omega (arith, lt)) all (subst (λ k. IsTold k (get_or xs i d) t) (omega arith) one))
 
 -- with one more, all up to it are told
-pub tells_more : (begins : List ProcessLocation) (code : Compiled) (shown : List (Shown Entry End)) (prefix : Option (List ℕ)) (original : RunRecord) (i : ℕ) (rs : List found_race.Race) (d : found_race.Race) (t : RaceDescription) (old mid new : List ℕ) → i < length rs
-    → TellsEach begins code shown prefix original (take i rs) old mid → IsRaceTold begins code shown prefix original (i + 1) (get_or rs i d) t → new ≡ mid ++ race_text t
-    → TellsEach begins code shown prefix original (take (i + 1) rs) old new
-tells_more begins code shown prefix original i rs d t old mid new lt tells one at = record {
+pub tells_more : {X : Type 0} (IsTold : ℕ → X → RaceDescription → Type 0) (n i k : ℕ) (xs : List X) (d : X) (t : RaceDescription) (old mid new : List ℕ) → i < length xs
+    → TellsEach IsTold n (take i xs) old mid → k ≡ n + i → IsTold k (get_or xs i d) t → new ≡ mid ++ race_text t → TellsEach IsTold n (take (i + 1) xs) old new
+tells_more IsTold n i k xs d t old mid new lt tells is one at = record {
   told = tells.told ++ t ∷ [];
-  are_told = subst (λ k. AreRacesTold begins code shown prefix original 1 (take k rs) (tells.told ++ t ∷ [])) (sym (add-one i))
-      (told_more begins code shown prefix original 1 i rs d tells.told t lt tells.are_told (subst (λ k. IsRaceTold begins code shown prefix original k (get_or rs i d) t) (omega arith) one));
+  are_told = subst (λ j. AreEachTold IsTold n (take j xs) (tells.told ++ t ∷ [])) (sym (add-one i))
+      (told_more IsTold n i xs d tells.told t lt tells.are_told (subst (λ j. IsTold j (get_or xs i d) t) is one));
   new_is = at ∙ (ap (λ l. l ++ race_text t) tells.new_is ∙ (append_assoc old (races_text tells.told) (race_text t) ∙ ap (λ l. old ++ l) (sym (text_more tells.told t))));
 }
 
 -- at the start none is told
-pub tells_none : (begins : List ProcessLocation) (code : Compiled) (shown : List (Shown Entry End)) (prefix : Option (List ℕ)) (original : RunRecord) (old : List ℕ) → TellsEach begins code shown prefix original [] old old
-tells_none begins code shown prefix original old = record { told = []; are_told = tt; new_is = sym (none_more old) }
-  where
-    none_more : (xs : List ℕ) → xs ++ [] ≡ xs
-    none_more [] = refl
-    none_more (x ∷ xs) = ap (λ ys. x ∷ ys) (none_more xs)
+pub tells_none : {X : Type 0} (IsTold : ℕ → X → RaceDescription → Type 0) (n : ℕ) (old : List ℕ) → TellsEach IsTold n [] old old
+tells_none IsTold n old = record { told = []; are_told = tt; new_is = sym (none_more old) }
 
--- the lines on each race, and then by what their list was cut
-pub tells_behind : {A E : Type 0} (r : Result A E) (source : List ℕ) (begins : List ProcessLocation) (code : Compiled) (shown : List (Shown Entry End)) (prefix : Option (List ℕ)) (race_bounds : RaceBounds) (found : Found) (old mid new : List ℕ)
-    → AreProcessesOf source begins → TellsEach begins code shown prefix found.original found.races.items old mid → OnOk r (new ≡ mid ++ list_end_text race_bounds found.cut)
-    → OnOk r (TellsBehind source code shown prefix race_bounds found old new)
-tells_behind (Ok x) source begins code shown prefix race_bounds found old mid new of_source each at = record {
-  lines = races_text each.told ++ list_end_text race_bounds found.cut;
-  tells = record { begins = begins; of_source = of_source; told = each.told; are_told = each.are_told; lines_is = refl };
-  new_is = at ∙ (ap (λ l. l ++ list_end_text race_bounds found.cut) each.new_is ∙ append_assoc old (races_text each.told) (list_end_text race_bounds found.cut));
+-- the lines on one text more for which none was found
+pub unnamed_more : (i : ℕ) (ns : List ℕ) (d : ℕ) → i < length ns → unnamed_lines (take (i + 1) ns) ≡ unnamed_lines (take i ns) ++ unnamed_text (get_or ns i d)
+unnamed_more i ns d lt = subst (λ j. unnamed_lines (take j ns) ≡ unnamed_lines (take i ns) ++ unnamed_text (get_or ns i d)) (sym (add-one i)) (more i ns lt)
+  where
+    more : (i : ℕ) (ns : List ℕ) → i < length ns → unnamed_lines (take (suc i) ns) ≡ unnamed_lines (take i ns) ++ unnamed_text (get_or ns i d)
+    more i [] lt = absurd (omega (arith, lt))
+    more zero (n ∷ ns) lt = none_more (unnamed_text n)
+    more (suc i) (n ∷ ns) lt = ap (λ l. unnamed_text n ++ l) (more i ns (omega (arith, lt))) ∙ sym (append_assoc (unnamed_text n) (unnamed_lines (take i ns)) (unnamed_text (get_or ns i d)))
+
+three : (old a b c mid next new : List ℕ) → mid ≡ old ++ a → next ≡ mid ++ b → new ≡ next ++ c → new ≡ old ++ (a ++ (b ++ c))
+three old a b c mid next new one two last =
+    last ∙ (ap (λ l. l ++ c) (two ∙ ap (λ l. l ++ b) one) ∙ (append_assoc (old ++ a) b c ∙ append_assoc old a (b ++ c)))
+
+-- the lines on races that part texts, on each race of a first run, and then by what their list was cut
+pub tells_behind : {A E : Type 0} (r : Result A E) (source : List ℕ) (begins : List ProcessLocation) (code : Compiled) (shown : List (Shown Entry End)) (prefix : Option (List ℕ)) (race_bounds : RaceBounds) (found : Found) (causes : List Cause) (old mid next new : List ℕ)
+    → AreProcessesOf source begins → TellsEach (IsCauseTold begins code shown prefix) 1 causes old mid → TellsEach (IsFoundTold begins code shown prefix found.original) (length causes + 1) found.races.items mid next
+    → OnOk r (new ≡ next ++ list_end_text race_bounds found.cut) → OnOk r (TellsBehind source code shown prefix race_bounds found causes old new)
+tells_behind (Ok x) source begins code shown prefix race_bounds found causes old mid next new of_source parting each at = record {
+  lines = races_text parting.told ++ (races_text each.told ++ list_end_text race_bounds found.cut);
+  tells = record { begins = begins; of_source = of_source; parting = parting.told; are_parting = parting.are_told; told = each.told; are_told = each.are_told; lines_is = refl };
+  new_is = three old (races_text parting.told) (races_text each.told) (list_end_text race_bounds found.cut) mid next new parting.new_is each.new_is at;
 }
-tells_behind (Err x) source begins code shown prefix race_bounds found old mid new of_source each at = tt
+tells_behind (Err x) source begins code shown prefix race_bounds found causes old mid next new of_source parting each at = tt
+
+-- the lines on further races that part texts, on texts for which none was found, and then by what their list was cut
+pub tells_more_behind : {A E : Type 0} (r : Result A E) (source : List ℕ) (begins : List ProcessLocation) (code : Compiled) (shown : List (Shown Entry End)) (prefix : Option (List ℕ)) (race_bounds : RaceBounds) (found : Found) (before : ℕ) (causes : Causes) (old mid next new : List ℕ)
+    → AreProcessesOf source begins → TellsEach (IsCauseTold begins code shown prefix) (length found.races.items + before + 1) (drop before causes.causes.items) old mid → next ≡ mid ++ unnamed_lines causes.unnamed.items
+    → OnOk r (new ≡ next ++ list_end_text race_bounds causes.cut) → OnOk r (TellsMoreBehind source code shown prefix race_bounds found before causes old new)
+tells_more_behind (Ok x) source begins code shown prefix race_bounds found before causes old mid next new of_source parting unnamed at = record {
+  lines = races_text parting.told ++ (unnamed_lines causes.unnamed.items ++ list_end_text race_bounds causes.cut);
+  tells = record { begins = begins; of_source = of_source; parting = parting.told; are_parting = parting.are_told; lines_is = refl };
+  new_is = three old (races_text parting.told) (unnamed_lines causes.unnamed.items) (list_end_text race_bounds causes.cut) mid next new parting.new_is unnamed at;
+}
+tells_more_behind (Err x) source begins code shown prefix race_bounds found before causes old mid next new of_source parting unnamed at = tt

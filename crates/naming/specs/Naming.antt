@@ -1,11 +1,13 @@
 -- Races that are told in lines.
-use Rattle.std.specs.Prelude.{◌≡◌, ℕ, ◌+◌, List, [], ◌∷◌, ◌++◌, Option, Some, None, slice_get, string_bytes}
+use Rattle.std.specs.Prelude.{◌≡◌, ℕ, ◌+◌, List, [], ◌∷◌, ◌++◌, drop, length, Option, Some, None, slice_get, string_bytes}
 use Rattle.std.specs.List.{All}
 use Rattle.model.specs.declared.entry.Entry.{Entry}
 use Rattle.model.specs.declared.end.End.{End}
 use Rattle.design.specs.Compiled.{Compiled}
 use Rattle.explore.specs.declared.Shown.{Shown}
 use Rattle.runs.specs.declared.run.RunRecord.{RunRecord}
+use Rattle.races.specs.declared.told.Cause.{Cause}
+use Rattle.races.specs.declared.causes.Causes.{Causes}
 use Rattle.races.specs.declared.told.Race as found_race
 use Rattle.races.specs.declared.told.Bound.{Bound}
 use Rattle.races.specs.declared.told.Found.{Found}
@@ -15,7 +17,7 @@ use Rattle.verdict.specs.VerdictLines.{IsFirstDifference, HaveSameLines}
 use Rattle.verdict.specs.declared.race.RaceDescription.{RaceDescription}
 use Rattle.verdict.specs.declared.race.RoleDescription.{RoleDescription}
 use Rattle.verdict.specs.declared.race.RunDescription.{RunDescription}
-use Rattle.verdict.specs.RaceLines.{prefix_of, race_text}
+use Rattle.verdict.specs.RaceLines.{prefix_of, race_text, unnamed_text}
 use Rattle.verdict.specs.CutLines.{cut_text}
 use Rattle.locations.specs.declared.location.ProcessLocation.{ProcessLocation}
 use Rattle.naming.specs.Begins.{AreProcessesOf, begin_of}
@@ -57,13 +59,20 @@ pub record IsRaceTold (begins : List ProcessLocation) (code : Compiled) (shown :
   pub one : IsRunTold shown original told.original
   pub other : IsRunTold shown race.exchanged told.exchanged
 
--- so each race is told, with numbers from one on
-abbrev pub AreRacesTold : List ProcessLocation → Compiled → List (Shown Entry End) → Option (List ℕ) → RunRecord → ℕ → List found_race.Race → List RaceDescription → Type 0
-AreRacesTold begins code shown prefix original number [] [] = Unit {0}
-AreRacesTold begins code shown prefix original number (r ∷ rs) [] = ⊥
-AreRacesTold begins code shown prefix original number [] (t ∷ ts) = ⊥
-AreRacesTold begins code shown prefix original number (r ∷ rs) (t ∷ ts) =
-    IsRaceTold begins code shown prefix original number r t × AreRacesTold begins code shown prefix original (number + 1) rs ts
+-- each of some things is told, with numbers from one on
+abbrev pub AreEachTold : {X : Type 0} → (ℕ → X → RaceDescription → Type 0) → ℕ → List X → List RaceDescription → Type 0
+AreEachTold IsTold number [] [] = Unit {0}
+AreEachTold IsTold number (x ∷ xs) [] = ⊥
+AreEachTold IsTold number [] (t ∷ ts) = ⊥
+AreEachTold IsTold number (x ∷ xs) (t ∷ ts) = IsTold number x t × AreEachTold IsTold (number + 1) xs ts
+
+-- a race of a first run is told with a number
+abbrev pub IsFoundTold : List ProcessLocation → Compiled → List (Shown Entry End) → Option (List ℕ) → RunRecord → ℕ → found_race.Race → RaceDescription → Type 0
+IsFoundTold begins code shown prefix original number race told = IsRaceTold begins code shown prefix original number race told
+
+-- a race that parts texts is told with a number, by both of its runs
+abbrev pub IsCauseTold : List ProcessLocation → Compiled → List (Shown Entry End) → Option (List ℕ) → ℕ → Cause → RaceDescription → Type 0
+IsCauseTold begins code shown prefix number cause told = IsRaceTold begins code shown prefix cause.original number cause.race told
 
 -- the lines on races
 abbrev pub races_text : List RaceDescription → List ℕ
@@ -75,23 +84,45 @@ abbrev pub list_end_text : RaceBounds → Option Bound → List ℕ
 list_end_text race_bounds (Some bound) = cut_text (cut_of race_bounds bound)
 list_end_text race_bounds None = []
 
--- What was found in the design of a source is told in these lines: its races, one after another, each process by where it begins, and by what their list
--- was cut, if it was.
-pub record TellsRaces (source : List ℕ) (code : Compiled) (shown : List (Shown Entry End)) (prefix : Option (List ℕ)) (race_bounds : RaceBounds) (found : Found) (lines : List ℕ) : Type 0 where
+-- the lines on texts for which no race was found, by their numbers
+abbrev pub unnamed_lines : List ℕ → List ℕ
+unnamed_lines [] = []
+unnamed_lines (n ∷ ns) = unnamed_text n ++ unnamed_lines ns
+
+-- What was found in the design of a source is told in these lines: races that part texts, and then those of a first run, one after another, each process by where
+-- it begins, and by what the list of the latter was cut, if it was.
+pub record TellsRaces (source : List ℕ) (code : Compiled) (shown : List (Shown Entry End)) (prefix : Option (List ℕ)) (race_bounds : RaceBounds) (found : Found) (causes : List Cause) (lines : List ℕ) : Type 0 where
   pub begins : List ProcessLocation
   pub of_source : AreProcessesOf source begins
+  pub parting : List RaceDescription
+  pub are_parting : AreEachTold (IsCauseTold begins code shown prefix) 1 causes parting
   pub told : List RaceDescription
-  pub are_told : AreRacesTold begins code shown prefix found.original 1 found.races.items told
-  pub lines_is : lines ≡ races_text told ++ list_end_text race_bounds found.cut
+  pub are_told : AreEachTold (IsFoundTold begins code shown prefix found.original) (length causes + 1) found.races.items told
+  pub lines_is : lines ≡ races_text parting ++ (races_text told ++ list_end_text race_bounds found.cut)
 
 -- a text has grown by lines that tell what was found
-pub record TellsBehind (source : List ℕ) (code : Compiled) (shown : List (Shown Entry End)) (prefix : Option (List ℕ)) (race_bounds : RaceBounds) (found : Found) (old new : List ℕ) : Type 0 where
+pub record TellsBehind (source : List ℕ) (code : Compiled) (shown : List (Shown Entry End)) (prefix : Option (List ℕ)) (race_bounds : RaceBounds) (found : Found) (causes : List Cause) (old new : List ℕ) : Type 0 where
   pub lines : List ℕ
-  pub tells : TellsRaces source code shown prefix race_bounds found lines
+  pub tells : TellsRaces source code shown prefix race_bounds found causes lines
   pub new_is : new ≡ old ++ lines
 
--- a text has grown by lines that tell these races
-pub record TellsEach (begins : List ProcessLocation) (code : Compiled) (shown : List (Shown Entry End)) (prefix : Option (List ℕ)) (original : RunRecord) (races : List found_race.Race) (old new : List ℕ) : Type 0 where
+-- What was found behind so many races that part texts, and those of a first run, is told in these lines: the further races that part texts, for which texts
+-- none was found, and by what their list was cut, if it was.
+pub record TellsMore (source : List ℕ) (code : Compiled) (shown : List (Shown Entry End)) (prefix : Option (List ℕ)) (race_bounds : RaceBounds) (found : Found) (before : ℕ) (causes : Causes) (lines : List ℕ) : Type 0 where
+  pub begins : List ProcessLocation
+  pub of_source : AreProcessesOf source begins
+  pub parting : List RaceDescription
+  pub are_parting : AreEachTold (IsCauseTold begins code shown prefix) (length found.races.items + before + 1) (drop before causes.causes.items) parting
+  pub lines_is : lines ≡ races_text parting ++ (unnamed_lines causes.unnamed.items ++ list_end_text race_bounds causes.cut)
+
+-- a text has grown by such lines
+pub record TellsMoreBehind (source : List ℕ) (code : Compiled) (shown : List (Shown Entry End)) (prefix : Option (List ℕ)) (race_bounds : RaceBounds) (found : Found) (before : ℕ) (causes : Causes) (old new : List ℕ) : Type 0 where
+  pub lines : List ℕ
+  pub tells : TellsMore source code shown prefix race_bounds found before causes lines
+  pub new_is : new ≡ old ++ lines
+
+-- a text has grown by lines that tell each of some things, with numbers from one on
+pub record TellsEach {X : Type 0} (IsTold : ℕ → X → RaceDescription → Type 0) (number : ℕ) (xs : List X) (old new : List ℕ) : Type 0 where
   pub told : List RaceDescription
-  pub are_told : AreRacesTold begins code shown prefix original 1 races told
+  pub are_told : AreEachTold IsTold number xs told
   pub new_is : new ≡ old ++ races_text told

@@ -5,7 +5,7 @@ use Rattle.races.specs.declared.told.Bound.{Bound}
 use Rattle.races.specs.declared.told.Bound.TheVariants as bounds
 use Rattle.races.specs.declared.told.RaceBounds.{RaceBounds}
 use Rattle.accesses.specs.declared.role.Does.{Does}
-use Rattle.accesses.specs.declared.role.Does.TheVariants.{Writes, Assigns, Updates, Reads, Waits, Prints, Strobes, Finishes, Runs}
+use Rattle.accesses.specs.declared.role.Does.TheVariants.{Writes, Assigns, Updates, Reads, Waits, Prints, Strobes, Finishes, Runs, Schedules}
 use Rattle.accesses.specs.declared.role.Site as found
 use Rattle.accesses.specs.declared.role.Site.TheVariants as sites
 use Rattle.verdict.specs.declared.cut.ListCut.{ListCut}
@@ -24,6 +24,7 @@ access_word Prints = codes "prints"
 access_word Strobes = codes "strobes"
 access_word Finishes = codes "finishes the run"
 access_word Runs = codes "takes a turn"
+access_word Schedules = codes "schedules updates"
 
 -- by what a list of races was cut, with the bound that was met
 abbrev pub cut_of : RaceBounds → Bound → ListCut
@@ -39,6 +40,8 @@ IsSiteTold code (sites.Register r) (lines.Register name) = (known : List ℕ) �
 IsSiteTold code (sites.Register r) lines.Printing = ⊥
 IsSiteTold code (sites.Register r) lines.Strobing = ⊥
 IsSiteTold code (sites.Register r) lines.Finishing = ⊥
+IsSiteTold code (sites.Register r) lines.Updating = ⊥
 IsSiteTold code sites.Printing site = site ≡ lines.Printing
 IsSiteTold code sites.Strobing site = site ≡ lines.Strobing
 IsSiteTold code sites.Finishing site = site ≡ lines.Finishing
+IsSiteTold code sites.Updating site = site ≡ lines.Updating

@@ -4,11 +4,13 @@
 //! process by the line in which it begins, the line in which the two runs differ, and the numbers of their journals; and then by what
 //! the list of races was cut, if it was.
 //!
-//! What the layer above uses: the contract of `push_races`. The lines are those of `verdict`, with the names, the time, and the
+//! `push_more_races` does so with races that were found later.
+//!
+//! What the layer above uses: the contracts of both. The lines are those of `verdict`, with the names, the time, and the
 //! lines of the two runs; a journal is named by its number where it is that of the run, and nowhere else.
 #![tactic(auto)]
 
 mod naming;
 mod words;
 
-pub use naming::{RaceNames, push_races};
+pub use naming::{RaceNames, push_more_races, push_races};

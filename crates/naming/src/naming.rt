@@ -1,8 +1,8 @@
 //! Races that were found, told in lines.
-ghost use Rattle.std.specs.Prelude.{◌≡◌, ◌≢◌, ◌↔◌, ◌++◌, [], IfOk, IsTrue, OnOk, option_map, string_bytes};
+ghost use Rattle.std.specs.Prelude.{◌≡◌, ◌≢◌, ◌↔◌, ◌≤◌, ◌+◌, ◌++◌, [], length, IfOk, IsTrue, OnOk, option_map, string_bytes};
 ghost use Rattle.tokens.specs.declared.cut.CutFault.TheVariants as faults;
 ghost use Rattle.naming.specs.Begins.{AreProcessesOf, begin_of};
-ghost use Rattle.naming.specs.Naming.{AreRacesTold, HasJournal, IsDifferenceTold, IsJournalTold, IsRaceTold, IsRoleTold, TellsBehind, TellsEach, list_end_text};
+ghost use Rattle.naming.specs.Naming.{HasJournal, IsCauseTold, IsDifferenceTold, IsFoundTold, IsJournalTold, IsRaceTold, IsRoleTold, TellsBehind, TellsEach, TellsMoreBehind, list_end_text, unnamed_lines};
 
 use crate::words::{cut_of, site_of, word_of};
 use accesses::are_same;
@@ -11,13 +11,13 @@ use explore::Shown;
 use locations::processes;
 use model::end::End;
 use model::entry::Entry;
-use races::{Bound, Found, RaceBounds};
+use races::{Bound, Cause, Causes, Found, RaceBounds};
 use runs::run::RunRecord;
 use std::alloc::{AllocError, Global};
 use tokens::cut::CutFault;
 use verdict::{
     ProcessDescription, RaceDescription, RoleDescription, RunDescription, first_difference,
-    push_cut, push_race,
+    push_cut, push_race, push_unnamed,
 };
 
 /// What races are named by: the source, its design, the bounds within which they were looked for, and the texts that are known, of which
@@ -39,18 +39,82 @@ struct Lines<'a> {
     other: &'a [u8],
 }
 
-/// Puts the lines on races that were found behind a text, and the one that says by what their list was cut. Fails where memory is refused.
+/// Puts the lines on races that part texts behind a text, then those on races that were found in a first run, and the one that says by what the list of these was
+/// cut. Fails where memory is refused.
 pub fn push_races<'a>(
     alloc: Global,
     text: &mut Vec<u8>,
     names: &RaceNames<'a>,
     found: &'a Found,
+    causes: &'a [Cause],
 ) -> Result<(), AllocError>
-    ensures { OnOk result (TellsBehind names.entry.now.source.now names.entry.now.design.now names.entry.now.shown.now (option_map (λ path. path.now) names.entry.now.prefix) names.entry.now.race_bounds found.entry.now text.old.items text.new.items) }
+    ensures { OnOk result (TellsBehind names.entry.now.source.now names.entry.now.design.now names.entry.now.shown.now (option_map (λ path. path.now) names.entry.now.prefix) names.entry.now.race_bounds found.entry.now causes.entry.now text.old.items text.new.items) }
 {
     let processes = processes_of(alloc, names.source)?;
-    push_each(text, names, &processes, found)?;
+    let begins = processes.as_slice();
+    push_parting(text, names, begins, 1, causes)?;
+    push_each(text, names, begins, causes.len(), found)?;
     push_end(text, names.race_bounds, found.cut)
+}
+
+/// Puts the lines on races that part texts, which were found behind so many of them and those of a first run, behind a text, then those on texts for which none was
+/// found, and the one that says by what their list was cut. Fails where memory is refused.
+pub fn push_more_races<'a>(
+    alloc: Global,
+    text: &mut Vec<u8>,
+    names: &RaceNames<'a>,
+    found: &Found,
+    before: usize,
+    causes: &'a Causes,
+) -> Result<(), AllocError>
+    requires { before ≤ length causes.now.causes.items }
+    ensures { OnOk result (TellsMoreBehind names.entry.now.source.now names.entry.now.design.now names.entry.now.shown.now (option_map (λ path. path.now) names.entry.now.prefix) names.entry.now.race_bounds found.now before causes.entry.now text.old.items text.new.items) }
+{
+    let processes = processes_of(alloc, names.source)?;
+    let (_, more) = causes.causes.as_slice().split_at(before);
+    push_parting(
+        text,
+        names,
+        &processes,
+        found.races.len() + before + 1,
+        more,
+    )?;
+    push_unnamed_texts(text, causes.unnamed.as_slice())?;
+    push_end(text, names.race_bounds, causes.cut)
+}
+
+/// Puts the lines on texts for which no race was found behind a text.
+fn push_unnamed_texts(text: &mut Vec<u8>, numbers: &[usize]) -> Result<(), AllocError>
+    ensures { OnOk result (text.new.items ≡ text.old.items ++ unnamed_lines numbers.now) }
+{
+    for place in 0..numbers.len() {
+        push_unnamed(text, numbers[place])?;
+    }
+    Ok(())
+}
+
+/// Puts the lines on each race that parts texts behind a text, with numbers from this one on. Fails where memory is refused.
+fn push_parting<'a>(
+    text: &mut Vec<u8>,
+    names: &RaceNames<'a>,
+    processes: &[locations::ProcessLocation],
+    number: usize,
+    causes: &'a [Cause],
+) -> Result<(), AllocError>
+    requires { number + length causes.now ≤ 18446744073709551615 }
+    ensures { OnOk result (TellsEach (IsCauseTold processes.now names.entry.now.design.now names.entry.now.shown.now (option_map (λ path. path.now) names.entry.now.prefix)) number causes.entry.now text.old.items text.new.items) }
+{
+    for (place, cause) in causes.iter().enumerate() {
+        let told = told_race(
+            names,
+            processes,
+            &cause.original,
+            &cause.race,
+            number + place,
+        );
+        push_race(text, &told)?;
+    }
+    Ok(())
 }
 
 /// By what the list of races was cut, if it was.
@@ -92,17 +156,19 @@ fn without_processes(
     }
 }
 
-/// Puts the lines on each race behind a text, with numbers from 1 on. Fails where memory is refused.
+/// Puts the lines on each race of a first run behind a text, with numbers behind those of so many others. Fails where memory is refused.
 fn push_each<'a>(
     text: &mut Vec<u8>,
     names: &RaceNames<'a>,
     processes: &[locations::ProcessLocation],
+    before: usize,
     found: &'a Found,
 ) -> Result<(), AllocError>
-    ensures { OnOk result (TellsEach processes.now names.entry.now.design.now names.entry.now.shown.now (option_map (λ path. path.now) names.entry.now.prefix) found.entry.now.original found.entry.now.races.items text.old.items text.new.items) }
+    requires { before ≤ 9223372036854775807 }
+    ensures { OnOk result (TellsEach (IsFoundTold processes.now names.entry.now.design.now names.entry.now.shown.now (option_map (λ path. path.now) names.entry.now.prefix) found.entry.now.original) (before + 1) found.entry.now.races.items text.old.items text.new.items) }
 {
     for (place, race) in found.races.iter().enumerate() {
-        let told = told_race(names, processes, &found.original, race, place + 1);
+        let told = told_race(names, processes, &found.original, race, before + place + 1);
         push_race(text, &told)?;
     }
     Ok(())

@@ -38,6 +38,7 @@ pub(crate) fn word_of(does: Does) -> &'static str
         Does::Strobes => "strobes",
         Does::Finishes => "finishes the run",
         Does::Runs => "takes a turn",
+        Does::Schedules => "schedules updates",
     }
 }
 
@@ -50,6 +51,7 @@ pub(crate) fn site_of<'a>(design: &'a Design, site: accesses::Site) -> SiteDescr
         accesses::Site::Printing => SiteDescription::Printing,
         accesses::Site::Strobing => SiteDescription::Strobing,
         accesses::Site::Finishing => SiteDescription::Finishing,
+        accesses::Site::Updating => SiteDescription::Updating,
     }
 }
 

@@ -2,8 +2,6 @@
 use Rattle.std.proofs.Common.{◌≡◌, ◌≢◌, ◌⊎◌, ◌==◌, ◌||◌, Bool, true, false, string_bytes, ◌++◌, ◌∙◌, ap, append_assoc, sym, subst, inl, inr, refl, ℕ, List, Option, Some, None, IfOk, IfErr, OnOk, OnErr, Result, Ok, Err, map, option_map, codes, drop, arith}
 use Rattle.std.specs.Io.KnownBytes.{Appends, Keeps}
 use Rattle.model.specs.declared.entry.Entry.{Entry}
-use Rattle.model.specs.declared.end.End.{End}
-use Rattle.explore.specs.declared.Shown.{Shown}
 use Rattle.arguments.specs.declared.run_options.RunOptions.{RunOptions}
 use Rattle.clap.specs.Words.{Text, first_of}
 use Rattle.program.specs.declared.fault.Stop.{Stop}
@@ -16,23 +14,25 @@ use Rattle.arguments.specs.declared.request.RunRequest.{RunRequest}
 use Rattle.arguments.proofs.SecondWord.{unlike}
 use Rattle.arguments.specs.declared.request.RacesRequest.{RacesRequest}
 use Rattle.arguments.specs.declared.request.WavesRequest.{WavesRequest}
+use Rattle.arguments.specs.declared.request.DiffRequest.{DiffRequest}
 use Rattle.arguments.specs.declared.search_options.SearchOptions.{SearchOptions}
 use Rattle.program.specs.declared.finding.SearchFinding.{SearchFinding}
 use Rattle.program.specs.declared.fault.CommandFault.{CommandFault}
 use Rattle.program.specs.declared.fault.CommandFault.TheVariants as faults
+use Rattle.program.specs.declared.racing.ToldRaces.{ToldRaces}
 use Rattle.program.specs.Findings.{journals_of}
 use Rattle.design.specs.Compiled.{Compiled}
 use Rattle.arguments.specs.Options.{CanRun, CanSearch}
 use Rattle.program.specs.declared.ending.Ending.{Ending}
 use Rattle.program.specs.declared.ending.Ending.TheVariants as ending
 use Rattle.program.specs.declared.finding.SearchFinding.TheVariants as finding
-use Rattle.program.specs.Program.{IsNoRequestStatus, ended_status, ending_of, finding_status, help_text, right_text, status_of, stop_of, stop_status, version_text}
-use Rattle.program.specs.Printed.{AsksCheckOf, HasBegun, HasEnded, HasLeft, HasPrintedBy, HasRefused, HasRun, HasSavedSome, HasSearched, HasChecked, HasDumped, HasExplainedPart, HasShown, HasWaves, IsDone, IsLeft, IsLeftByRun, IsRight, IsUnprinted, IsWrong, begun, checked, helped, interrupted, ran, searched, untouched, versioned}
+use Rattle.program.specs.Program.{IsNoRequestStatus, compared_ending, ended_status, ending_of, finding_status, help_text, right_text, status_of, stop_of, stop_status, version_text}
+use Rattle.program.specs.Printed.{AsksCheckOf, HasBegun, HasEnded, HasLeft, HasPrintedBy, HasRefused, HasRun, HasSavedSome, HasSearched, HasChecked, HasDumped, HasCompared, HasComparedFiles, HasExplainedPart, HasShown, HasWaves, HaveDiffered, IsDone, IsLeft, IsLeftByRun, IsRight, IsUnprinted, IsWrong, begun, checked, compared, helped, interrupted, ran, searched, untouched, versioned}
 use Rattle.program.specs.StandardError.{HasExplainedTold, IsEndTold, IsReported, IsUnfinished, IsWanting, nothing, of_fault, of_source, of_stop}
 use Rattle.program.proofs.Statuses.{not_of_fault, not_of_stop}
 use Rattle.journal.specs.declared.counted.Counted.{Counted}
 use Rattle.files.specs.Saved.{AddsFile, IsOpened, SavesAllWhereAsked, KeepsFiles, KeepsHeld, MadeFile, SavesSomeWhereAsked, SavesWhereAsked}
-use Rattle.arguments.specs.CommandWords.{AreWrong, Asks, Begins, AsksRaces, AsksRun, AsksWaves, IsNoRequest, search_options_of, options_of, races_rows, run_rows}
+use Rattle.arguments.specs.CommandWords.{AreWrong, Asks, Begins, AsksDiff, AsksRaces, AsksRun, AsksWaves, IsNoRequest, search_options_of, options_of, races_rows, run_rows}
 
 -- files
 
@@ -117,11 +117,11 @@ some_saved_on None b c (Some p) journals h (count, k) = (count, tt)
 some_saved_on (Some fs) b c (Some p) journals h k = subst (λ (o : Option (List MadeFile)). SavesSomeWhereAsked o c (Some p) journals) h k
 
 -- what a search left behind its races, where the files were the same before it
-more_on : (design : Compiled) (search_options : SearchOptions) (prefix : Option (List ℕ)) (known : List (Shown Entry End)) (first : List ℕ) (old new : Option (List ℕ)) (a b c : Option (List MadeFile)) → KeepsFiles a b
-    → (Appends old new first × KeepsFiles b c) ⊎ HasSavedSome design search_options prefix known first old new b c
-    → (Appends old new first × KeepsFiles a c) ⊎ HasSavedSome design search_options prefix known first old new a c
-more_on design search_options prefix known first old new a b c h (inl (p, s)) = inl (p, kept_on a b c h s)
-more_on design search_options prefix known first old new a b c h (inr m) = inr (record {
+more_on : (source : List ℕ) (design : Compiled) (search_options : SearchOptions) (prefix : Option (List ℕ)) (early : ToldRaces) (first : List ℕ) (old new : Option (List ℕ)) (a b c : Option (List MadeFile)) → KeepsFiles a b
+    → (Appends old new first × KeepsFiles b c) ⊎ HasSavedSome source design search_options prefix early first old new b c
+    → (Appends old new first × KeepsFiles a c) ⊎ HasSavedSome source design search_options prefix early first old new a c
+more_on source design search_options prefix early first old new a b c h (inl (p, s)) = inl (p, kept_on a b c h s)
+more_on source design search_options prefix early first old new a b c h (inr m) = inr (record {
   last = m.last;
   has_found = m.has_found;
   printed = m.printed;
@@ -137,10 +137,10 @@ left_on holding file search_options prefix old new a b c h (inr begins) = inr (r
   held = begins.held;
   design = begins.design;
   is_design = begins.is_design;
-  known = begins.known;
+  early = begins.early;
   first = begins.first;
   is_first = begins.is_first;
-  left = more_on begins.design search_options prefix begins.known begins.first old new a b c h begins.left;
+  left = more_on begins.source begins.design search_options prefix begins.early begins.first old new a b c h begins.left;
 })
 
 pub search_left_on : (holding : Option (List ℕ → List ℕ)) (file : List ℕ) (search_options : SearchOptions) (prefix : Option (List ℕ)) (old new : Option (List ℕ)) (a b c : Option (List MadeFile)) (r : Result SearchFinding CommandFault) → KeepsFiles a b
@@ -156,7 +156,7 @@ shown_on holding file search_options prefix old new a b c (Ok found) h k = recor
   held = k.held;
   design = k.design;
   is_design = k.is_design;
-  known = k.known;
+  early = k.early;
   first = k.first;
   is_first = k.is_first;
   last = k.last;
@@ -236,6 +236,7 @@ done_by_status holding words old new files files' (Ok (ending.Found finding.Unfi
 done_by_status holding words old new files files' (Ok (ending.Found finding.Memory)) h e = cc
 done_by_status holding words old new files files' (Ok (ending.Found finding.Several)) h e = cc
 done_by_status holding words old new files files' (Ok (ending.Wrong text)) h e = cc
+done_by_status holding words old new files files' (Ok ending.Differ) h e = cc
 done_by_status holding words old new files files' (Err f) h e = absurd (not_of_fault f 0 refl e)
 
 pub right_by_status : (ended : Result Ending CommandFault) → ended_status ended ≡ 2 → ⊥
@@ -246,6 +247,7 @@ right_by_status (Ok (ending.Found finding.Unfinished)) e = cc
 right_by_status (Ok (ending.Found finding.Memory)) e = cc
 right_by_status (Ok (ending.Found finding.Several)) e = cc
 right_by_status (Ok (ending.Wrong text)) e = cc
+right_by_status (Ok ending.Differ) e = cc
 right_by_status (Err f) e = not_of_fault f 2 refl e
 
 pub refused_by_status : (holding : Option (List ℕ → List ℕ)) (words : List Text) (old new : Option (List ℕ)) (files files' : Option (List MadeFile)) (ended : Result Ending CommandFault)
@@ -258,6 +260,7 @@ refused_by_status holding words old new files files' (Ok (ending.Found finding.U
 refused_by_status holding words old new files files' (Ok (ending.Found finding.Memory)) h k e = cc
 refused_by_status holding words old new files files' (Ok (ending.Found finding.Several)) h k e = cc
 refused_by_status holding words old new files files' (Ok (ending.Wrong text)) h k e = h
+refused_by_status holding words old new files files' (Ok ending.Differ) h k e = cc
 refused_by_status holding words old new files files' (Err f) h (inl one) e = absurd (omega (arith, one, e))
 refused_by_status holding words old new files files' (Err f) h (inr six) e = absurd (omega (arith, six, e))
 
@@ -271,6 +274,7 @@ faulty_by_status holding words old new contents err err' (Ok (ending.Found findi
 faulty_by_status holding words old new contents err err' (Ok (ending.Found finding.Memory)) h t e = cc
 faulty_by_status holding words old new contents err err' (Ok (ending.Found finding.Several)) h t e = cc
 faulty_by_status holding words old new contents err err' (Ok (ending.Wrong text)) h t e = cc
+faulty_by_status holding words old new contents err err' (Ok ending.Differ) h t e = cc
 faulty_by_status holding words old new contents err err' (Err f) h t e = record { fault = f; explained = h e; told = t }
 
 pub stopped_by_status : {E : Type 0} (holding : Option (List ℕ → List ℕ)) (words : List Text) (old new : Option (List ℕ)) (files files' : Option (List MadeFile)) (contents : E → Option (List ℕ))
@@ -283,6 +287,7 @@ stopped_by_status holding words old new files files' contents err err' (Ok (endi
 stopped_by_status holding words old new files files' contents err err' (Ok (ending.Found finding.Memory)) h t e = cc
 stopped_by_status holding words old new files files' contents err err' (Ok (ending.Found finding.Several)) h t e = cc
 stopped_by_status holding words old new files files' contents err err' (Ok (ending.Wrong text)) h t e = cc
+stopped_by_status holding words old new files files' contents err err' (Ok ending.Differ) h t e = cc
 stopped_by_status holding words old new files files' contents err err' (Err f) h t e = absurd (not_of_fault f 4 refl e)
 
 pub wanting_by_status : {E : Type 0} (holding : Option (List ℕ → List ℕ)) (words : List Text) (old new : Option (List ℕ)) (files files' : Option (List MadeFile)) (contents : E → Option (List ℕ))
@@ -295,23 +300,27 @@ wanting_by_status holding words old new files files' contents err err' (Ok (endi
 wanting_by_status holding words old new files files' contents err err' (Ok (ending.Found finding.Memory)) h k t e = inl (inr (record { has_searched = h; told = t }))
 wanting_by_status holding words old new files files' contents err err' (Ok (ending.Found finding.Several)) h k t e = cc
 wanting_by_status holding words old new files files' contents err err' (Ok (ending.Wrong text)) h k t e = cc
+wanting_by_status holding words old new files files' contents err err' (Ok ending.Differ) h k t e = cc
 wanting_by_status holding words old new files files' contents err err' (Err f) h k t e = inr (k e)
 
--- the only end with that status
-is_found_several : (ended : Result Ending CommandFault) → ended_status ended ≡ 7 → ended ≡ Ok (ending.Found finding.Several)
-is_found_several (Ok ending.Done) e = cc
-is_found_several (Ok (ending.Stopped s)) e = absurd (not_of_stop s 7 refl e)
-is_found_several (Ok (ending.Found finding.One)) e = cc
-is_found_several (Ok (ending.Found finding.Unfinished)) e = cc
-is_found_several (Ok (ending.Found finding.Memory)) e = cc
-is_found_several (Ok (ending.Found finding.Several)) e = refl
-is_found_several (Ok (ending.Wrong text)) e = cc
-is_found_several (Err f) e = absurd (not_of_fault f 7 refl e)
+-- the only ends with that status
+is_several : (ended : Result Ending CommandFault) → ended_status ended ≡ 7 → (ended ≡ Ok (ending.Found finding.Several)) ⊎ (ended ≡ Ok ending.Differ)
+is_several (Ok ending.Done) e = cc
+is_several (Ok (ending.Stopped s)) e = absurd (not_of_stop s 7 refl e)
+is_several (Ok (ending.Found finding.One)) e = cc
+is_several (Ok (ending.Found finding.Unfinished)) e = cc
+is_several (Ok (ending.Found finding.Memory)) e = cc
+is_several (Ok (ending.Found finding.Several)) e = inl refl
+is_several (Ok (ending.Wrong text)) e = cc
+is_several (Ok ending.Differ) e = inr refl
+is_several (Err f) e = absurd (not_of_fault f 7 refl e)
 
 pub several_by_status : (holding : Option (List ℕ → List ℕ)) (words : List Text) (old new : Option (List ℕ)) (files files' : Option (List MadeFile)) (ended : Result Ending CommandFault)
-    → IfOk ended (HasEnded holding words old new files files') → ended_status ended ≡ 7 → HasSearched holding words old new files files' finding.Several
-several_by_status holding words old new files files' ended h e =
-    subst (λ (r : Result Ending CommandFault). IfOk r (HasEnded holding words old new files files')) (is_found_several ended e) h
+    → IfOk ended (HasEnded holding words old new files files') → ended_status ended ≡ 7 → HaveDiffered holding words old new files files'
+several_by_status holding words old new files files' ended h e = elim (is_several ended e) [
+  | inl is ↦ inl (subst (λ (r : Result Ending CommandFault). IfOk r (HasEnded holding words old new files files')) is h)
+  | inr is ↦ inr (subst (λ (r : Result Ending CommandFault). IfOk r (HasEnded holding words old new files files')) is h)
+]
 
 -- statuses 2, 3 and 5
 abbrev pub IsSourceStatus : ℕ → Type 0
@@ -341,6 +350,11 @@ no_zero (inl e) = cc
 no_zero (inr (inl e)) = cc
 no_zero (inr (inr e)) = cc
 
+no_seven : ◌≡◌ {A = ℕ} 7 2 ⊎ (◌≡◌ {A = ℕ} 7 3 ⊎ ◌≡◌ {A = ℕ} 7 5) → ⊥
+no_seven (inl e) = cc
+no_seven (inr (inl e)) = cc
+no_seven (inr (inr e)) = cc
+
 not_one : (n : ℕ) → (n ≡ 3) ⊎ (n ≡ 5) → n ≢ 1
 not_one n (inl e) one = omega (arith, e, one)
 not_one n (inr e) one = omega (arith, e, one)
@@ -361,6 +375,7 @@ nothing_by_status holding words old new files files' (Ok ending.Done) h k e = ab
 nothing_by_status holding words old new files files' (Ok (ending.Stopped s)) h k e = absurd (no_stop s (source_status words (stop_status s) e))
 nothing_by_status holding words old new files files' (Ok (ending.Found found)) h k e = absurd (no_finding found (source_status words (finding_status found) e))
 nothing_by_status holding words old new files files' (Ok (ending.Wrong text)) h k e = h.unprinted
+nothing_by_status holding words old new files files' (Ok ending.Differ) h k e = absurd (no_seven (source_status words 7 e))
 nothing_by_status holding words old new files files' (Err f) h k e = k e
 
 pub unsaved_by_status : (holding : Option (List ℕ → List ℕ)) (words : List Text) (old new : Option (List ℕ)) (files files' : Option (List MadeFile)) (ended : Result Ending CommandFault)
@@ -370,6 +385,7 @@ unsaved_by_status holding words old new files files' (Ok ending.Done) h k e = ab
 unsaved_by_status holding words old new files files' (Ok (ending.Stopped s)) h k e = absurd (no_stop s e)
 unsaved_by_status holding words old new files files' (Ok (ending.Found found)) h k e = absurd (no_finding found e)
 unsaved_by_status holding words old new files files' (Ok (ending.Wrong text)) h k e = h.unsaved
+unsaved_by_status holding words old new files files' (Ok ending.Differ) h k e = absurd (no_seven e)
 unsaved_by_status holding words old new files files' (Err f) h k e = k (of_source_or_journal f e)
 
 pub silent_by_status : {E : Type 0} (contents : E → Option (List ℕ)) (err err' : Counted E) (ended : Result Ending CommandFault) → IsEndTold contents err err' ended
@@ -384,6 +400,7 @@ silent_by_status contents err err' (Ok (ending.Found finding.Memory)) t (inr e) 
 silent_by_status contents err err' (Ok (ending.Found finding.Several)) t e = t
 silent_by_status contents err err' (Ok (ending.Wrong text)) t (inl e) = cc
 silent_by_status contents err err' (Ok (ending.Wrong text)) t (inr e) = cc
+silent_by_status contents err err' (Ok ending.Differ) t e = t
 silent_by_status contents err err' (Err f) t (inl e) = absurd (not_of_fault f 0 refl e)
 silent_by_status contents err err' (Err f) t (inr e) = absurd (not_of_fault f 7 refl e)
 
@@ -396,6 +413,7 @@ told_by_status holding contents err err' words old new files files' (Ok (ending.
 told_by_status holding contents err err' words old new files files' (Ok (ending.Found finding.Memory)) h t = of_fault faults.Memory refl t
 told_by_status holding contents err err' words old new files files' (Ok (ending.Found finding.Several)) h t = nothing (inr (inr refl)) t
 told_by_status holding contents err err' words old new files files' (Ok (ending.Wrong text)) h t = of_source h.begins refl (string_bytes text) t
+told_by_status holding contents err err' words old new files files' (Ok ending.Differ) h t = nothing (inr (inr refl)) t
 told_by_status holding contents err err' words old new files files' (Err f) h t = of_fault f refl t
 
 -- output that nothing was written to
@@ -411,12 +429,24 @@ pub run_performed : (holding : Option (List ℕ → List ℕ)) (words : List Tex
 run_performed holding words run old new files files' None asks h = ran (run_of_words holding words run old new files files' None asks h)
 run_performed holding words run old new files files' (Some s) asks h = run_of_words holding words run old new files files' (Some s) asks h
 
+-- whether an end is that of what is done
+abbrev is_done : Ending → Bool
+is_done ending.Done = true
+is_done (ending.Stopped s) = false
+is_done (ending.Found found) = false
+is_done (ending.Wrong text) = false
+is_done ending.Differ = false
+
+not_done : ◌≡◌ {A = Bool} false true → ⊥
+not_done e = cc
+
 pub version_performed : (holding : Option (List ℕ → List ℕ)) (words : List Text) (old new : Option (List ℕ)) (files : Option (List MadeFile)) (r : Result Ending CommandFault) → Begins words (codes "--version")
     → OnOk r (Appends old new version_text) → IfOk r (λ e. e ≡ ending.Done) → IfOk r (HasEnded holding words old new files files)
 version_performed holding words old new files (Ok ending.Done) begins shown is = versioned begins shown (kept files)
-version_performed holding words old new files (Ok (ending.Stopped s)) begins shown is = cc
-version_performed holding words old new files (Ok (ending.Found found)) begins shown is = cc
-version_performed holding words old new files (Ok (ending.Wrong text)) begins shown is = cc
+version_performed holding words old new files (Ok (ending.Stopped s)) begins shown is = absurd (not_done (ap is_done is))
+version_performed holding words old new files (Ok (ending.Found found)) begins shown is = absurd (not_done (ap is_done is))
+version_performed holding words old new files (Ok (ending.Wrong text)) begins shown is = absurd (not_done (ap is_done is))
+version_performed holding words old new files (Ok ending.Differ) begins shown is = absurd (not_done (ap is_done is))
 version_performed holding words old new files (Err f) begins shown is = tt
 
 -- whatever the fault
@@ -496,9 +526,10 @@ check_performed holding words path old new files files' (Ok ending.Done) asks ri
   shown = shown;
   unsaved = keeps;
 })
-check_performed holding words path old new files files' (Ok (ending.Stopped s)) asks right keeps shown is = cc
-check_performed holding words path old new files files' (Ok (ending.Found found)) asks right keeps shown is = cc
-check_performed holding words path old new files files' (Ok (ending.Wrong text)) asks right keeps shown is = cc
+check_performed holding words path old new files files' (Ok (ending.Stopped s)) asks right keeps shown is = absurd (not_done (ap is_done is))
+check_performed holding words path old new files files' (Ok (ending.Found found)) asks right keeps shown is = absurd (not_done (ap is_done is))
+check_performed holding words path old new files files' (Ok (ending.Wrong text)) asks right keeps shown is = absurd (not_done (ap is_done is))
+check_performed holding words path old new files files' (Ok ending.Differ) asks right keeps shown is = absurd (not_done (ap is_done is))
 check_performed holding words path old new files files' (Err f) asks right keeps shown is = tt
 
 pub waves_performed : (holding : Option (List ℕ → List ℕ)) (words : List Text) (waves : WavesRequest) (known : Option (List ℕ)) (files files' : Option (List MadeFile)) → AsksWaves words waves
@@ -514,6 +545,25 @@ waves_performed holding words waves known files files' asks h = record {
   dumped = h;
   unprinted = output_same known;
 }
+
+pub diff_performed : (holding : Option (List ℕ → List ℕ)) (words : List Text) (diff : DiffRequest) (old new : Option (List ℕ)) (files files' : Option (List MadeFile)) (same : Bool) → AsksDiff words diff
+    → HasComparedFiles holding diff.file.now diff.first.now diff.second.now old new same → KeepsFiles files files' → HasCompared holding words old new files files' same
+diff_performed holding words diff old new files files' same asks h k = record {
+  begins = asks.begins;
+  file = diff.file.now;
+  is_file = asks.is_diff.file;
+  first = diff.first.now;
+  is_first = asks.is_diff.first;
+  second = diff.second.now;
+  is_second = asks.is_diff.second;
+  compared = h;
+  unsaved = k;
+}
+
+pub compared_ended : (holding : Option (List ℕ → List ℕ)) (words : List Text) (old new : Option (List ℕ)) (files files' : Option (List MadeFile)) (same : Bool) → HasCompared holding words old new files files' same
+    → HasEnded holding words old new files files' (compared_ending same)
+compared_ended holding words old new files files' true h = compared h
+compared_ended holding words old new files files' false h = h
 
 -- a text, and then another
 pub appends_then : (a b c : Option (List ℕ)) (xs ys : List ℕ) → Appends a b xs → Appends b c ys → Appends a c (xs ++ ys)
@@ -553,6 +603,7 @@ explain_alone words (request.Races races) e asks begins = unlike (codes "races")
 explain_alone words (request.Check check) e asks begins = unlike (codes "check") (codes "explain") refl (sym asks.begins ∙ begins)
 explain_alone words (request.Explain explain) e asks begins = cc
 explain_alone words (request.Waves waves) e asks begins = unlike (codes "waves") (codes "explain") refl (sym asks.begins ∙ begins)
+explain_alone words (request.Diff diff) e asks begins = unlike (codes "diff") (codes "explain") refl (sym asks.begins ∙ begins)
 explain_alone words request.Version e asks begins = unlike (codes "--version") (codes "explain") refl (sym asks ∙ begins)
 
 -- words that begin as those of a check ask for nothing else
@@ -563,4 +614,5 @@ check_alone words (request.Races races) e asks begins = unlike (codes "races") (
 check_alone words (request.Check check) e asks begins = cc
 check_alone words (request.Explain explain) e asks begins = unlike (codes "explain") (codes "check") refl (sym asks.begins ∙ begins)
 check_alone words (request.Waves waves) e asks begins = unlike (codes "waves") (codes "check") refl (sym asks.begins ∙ begins)
+check_alone words (request.Diff diff) e asks begins = unlike (codes "diff") (codes "check") refl (sym asks.begins ∙ begins)
 check_alone words request.Version e asks begins = unlike (codes "--version") (codes "check") refl (sym asks ∙ begins)

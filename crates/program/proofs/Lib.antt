@@ -1,4 +1,6 @@
 -- Lemmas of statuses, ends and searches.
+pub mod Causing
+pub mod Compared
 pub mod Ended
 pub mod Endings
 pub mod Explained

@@ -14,7 +14,10 @@ use Rattle.explore.specs.Search.{AreDistinct, IsShown}
 use Rattle.model.specs.Texts as orders
 use Rattle.races.specs.declared.told.Found.{Found}
 use Rattle.races.specs.declared.told.RaceBounds.{RaceBounds}
-use Rattle.naming.specs.Naming.{TellsBehind, TellsRaces}
+use Rattle.races.specs.Causes.{AreCauses, HasAnswer}
+use Rattle.races.specs.declared.causes.Causes.{Causes}
+use Rattle.races.specs.declared.told.Cause.{Cause}
+use Rattle.naming.specs.Naming.{TellsBehind, TellsMore, TellsMoreBehind, TellsRaces}
 use Rattle.verdict.specs.declared.claim.Claim.{Claim}
 use Rattle.verdict.specs.declared.claim.Claim.TheVariants.{Every, SoFar, Sampled}
 use Rattle.verdict.specs.declared.claim.SearchStop.TheVariants.{States, Texts, Entries, Megabytes, Memory}
@@ -25,7 +28,9 @@ use Rattle.arguments.specs.declared.search_options.SearchOptions.{SearchOptions}
 use Rattle.program.specs.declared.finding.SearchFinding.{SearchFinding}
 use Rattle.program.specs.declared.fault.CommandFault.{CommandFault}
 use Rattle.program.specs.Findings.{AreFound, AreOfSeeds, IsFound, IsLawfulShown, IsClaimWithin, OnEvery, OnSampled, claim_of, endless_number, finding_of, journals_of, limits_in, some_journal, search_stop_of, unless_stopped}
-use Rattle.program.specs.Printed.{HasFound, HasLeft, HasSavedSome, HasShown, IsToldFirst, IsToldLast}
+use Rattle.program.specs.declared.racing.NamedRaces.{NamedRaces}
+use Rattle.program.specs.declared.racing.ToldRaces.{ToldRaces}
+use Rattle.program.specs.Printed.{HasFound, HasLeft, HasSavedSome, HasShown, IsToldFirst, IsToldLast, IsToldMore}
 use Rattle.program.specs.Program.{status_of}
 use Rattle.program.proofs.Knowing.{few_shown}
 use Rattle.program.proofs.Ended.{all_saved_on, appends_then, kept_on, some_saved_on}
@@ -173,90 +178,139 @@ pub journals_alone : (ss : List (Shown Entry End)) → map (λ s. s.moves.items)
 journals_alone ss = sym (none_behind (map (λ s. s.moves.items) ss))
 
 -- lines that tell races behind a text that is empty
-pub tells_alone : (source : List ℕ) (code : Compiled) (shown : List (Shown Entry End)) (prefix : Option (List ℕ)) (race_bounds : RaceBounds) (found : Found) (begun lines : List ℕ) → begun ≡ []
-    → TellsBehind source code shown prefix race_bounds found begun lines → TellsRaces source code shown prefix race_bounds found lines
-tells_alone source code shown prefix race_bounds found begun lines empty h = subst (TellsRaces source code shown prefix race_bounds found) (sym (h.new_is ∙ ap (λ l. l ++ h.lines) empty)) h.tells
+pub tells_alone : (source : List ℕ) (code : Compiled) (shown : List (Shown Entry End)) (prefix : Option (List ℕ)) (race_bounds : RaceBounds) (found : Found) (causes : List Cause) (empty lines : List ℕ) → empty ≡ []
+    → TellsBehind source code shown prefix race_bounds found causes empty lines → TellsRaces source code shown prefix race_bounds found causes lines
+tells_alone source code shown prefix race_bounds found causes empty lines none h = subst (TellsRaces source code shown prefix race_bounds found causes) (sym (h.new_is ∙ ap (λ l. l ++ h.lines) none)) h.tells
+
+-- lines that tell further races behind a text that is empty
+pub tells_more_alone : (source : List ℕ) (code : Compiled) (shown : List (Shown Entry End)) (prefix : Option (List ℕ)) (race_bounds : RaceBounds) (found : Found) (before : ℕ) (causes : Causes) (empty lines : List ℕ) → empty ≡ []
+    → TellsMoreBehind source code shown prefix race_bounds found before causes empty lines → TellsMore source code shown prefix race_bounds found before causes lines
+tells_more_alone source code shown prefix race_bounds found before causes empty lines none h = subst (TellsMore source code shown prefix race_bounds found before causes) (sym (h.new_is ∙ ap (λ l. l ++ h.lines) none)) h.tells
+
+-- what is told of texts behind a search: further races, and then what is said of the texts
+pub record IsToldBehind (source : List ℕ) (code : Compiled) (search_options : SearchOptions) (prefix : Option (List ℕ)) (races : NamedRaces) (claim : Claim) (shown : List (Shown Entry End)) (last : List ℕ) : Type 0 where
+  pub more : List ℕ
+  pub is_more : IsToldMore source code search_options prefix races shown more
+  pub said : List ℕ
+  pub is_said : IsToldLast search_options prefix claim shown said
+  pub last_is : last ≡ more ++ said
+
+-- what was told before a search of the races that part texts
+pub early_causes : (source : List ℕ) (code : Compiled) (search_options : SearchOptions) (prefix : Option (List ℕ)) (early : ToldRaces) (a b : Option (List ℕ)) → ((first : List ℕ) × IsToldFirst source code search_options prefix early first × Appends a b first)
+    → AreCauses code (limits_in search_options) early.races.bounds early.races.found early.races.causes
+early_causes source code search_options prefix early a b (first, is_first, begins) = is_first.are_causes
+
+pub early_answered : (source : List ℕ) (code : Compiled) (search_options : SearchOptions) (prefix : Option (List ℕ)) (early : ToldRaces) (a b : Option (List ℕ)) → ((first : List ℕ) × IsToldFirst source code search_options prefix early first × Appends a b first)
+    → 1 < early.races.texts → HasAnswer early.races.found early.races.causes
+early_answered source code search_options prefix early a b (first, is_first, begins) many = is_first.answered (subst (λ (n : ℕ). 1 < n) is_first.texts many)
+
+pub told_behind : (source : List ℕ) (code : Compiled) (search_options : SearchOptions) (prefix : Option (List ℕ)) (races : NamedRaces) (claim : Claim) (shown texts : List (Shown Entry End)) (more said lines last : List ℕ) → texts ≡ shown
+    → IsToldMore source code search_options prefix races texts more → IsToldLast search_options prefix claim shown said → lines ≡ said → last ≡ more ++ lines → IsToldBehind source code search_options prefix races claim shown last
+told_behind source code search_options prefix races claim shown texts more said lines last same told is_said are is = record {
+  more = more;
+  is_more = subst (λ (ss : List (Shown Entry End)). IsToldMore source code search_options prefix races ss more) same told;
+  said = said;
+  is_said = is_said;
+  last_is = is ∙ ap (λ l. more ++ l) are;
+}
+
+found_behind : (source : List ℕ) (code : Compiled) (search_options : SearchOptions) (prefix : Option (List ℕ)) (early : ToldRaces) (claim : Claim) (shown : List (Shown Entry End)) (endless : Option (List Entry)) (last : List ℕ) → AreFound code search_options claim shown endless
+    → Extends early.known.items shown → IsToldBehind source code search_options prefix early.races claim shown last → HasFound source code search_options prefix early last
+found_behind source code search_options prefix early claim shown endless last are_found grown is_last = record {
+  claim = claim;
+  shown = shown;
+  endless = endless;
+  are_found = are_found;
+  grown = grown;
+  more = is_last.more;
+  is_more = is_last.is_more;
+  said = is_last.said;
+  is_said = is_last.is_said;
+  last_is = is_last.last_is;
+}
 
 -- a search that was told first and last, with the journals of what was found
-pub search_shown : (holding : Option (List ℕ → List ℕ)) (file : List ℕ) (source : List ℕ) (code : Compiled) (search_options : SearchOptions) (prefix : Option (List ℕ)) (known : List (Shown Entry End)) (claim : Claim) (shown : List (Shown Entry End)) (endless : Option (List Entry)) (a b c : Option (List ℕ))
-    (files tried files' : Option (List MadeFile)) (last : List ℕ) (found : SearchFinding) → IsHeld holding file source → IsDesignOf source code → ((first : List ℕ) × IsToldFirst source code search_options prefix known first × Appends a b first)
-    → AreFound code search_options claim shown endless → Extends known shown → IsToldLast search_options prefix claim shown last → Appends b c last → KeepsFiles files tried → SavesAllWhereAsked tried files' prefix (journals_of shown endless)
+pub search_shown : (holding : Option (List ℕ → List ℕ)) (file : List ℕ) (source : List ℕ) (code : Compiled) (search_options : SearchOptions) (prefix : Option (List ℕ)) (early : ToldRaces) (claim : Claim) (shown : List (Shown Entry End)) (endless : Option (List Entry)) (a b c : Option (List ℕ))
+    (files tried files' : Option (List MadeFile)) (last : List ℕ) (found : SearchFinding) → IsHeld holding file source → IsDesignOf source code → ((first : List ℕ) × IsToldFirst source code search_options prefix early first × Appends a b first)
+    → AreFound code search_options claim shown endless → Extends early.known.items shown → IsToldBehind source code search_options prefix early.races claim shown last → Appends b c last → KeepsFiles files tried → SavesAllWhereAsked tried files' prefix (journals_of shown endless)
     → found ≡ finding_of claim (length shown) → HasShown holding file search_options prefix a c files files' found
-search_shown holding file source code search_options prefix known claim shown endless a b c files tried files' last found held is_design (first, is_first, begins) are_found grown is_last ends kept saved is = record {
+unfolding found_behind
+search_shown holding file source code search_options prefix early claim shown endless a b c files tried files' last found held is_design (first, is_first, begins) are_found grown is_last ends kept saved is = record {
   source = source;
   held = held;
   design = code;
   is_design = is_design;
-  known = known;
+  early = early;
   first = first;
   is_first = is_first;
   last = last;
-  has_found = record { claim = claim; shown = shown; endless = endless; are_found = are_found; grown = grown; is_last = is_last };
+  has_found = found_behind source code search_options prefix early claim shown endless last are_found grown is_last;
   printed = appends_then a b c first last begins ends;
   saved = all_saved_on files tried files' prefix (journals_of shown endless) kept saved;
   finding = is;
 }
 
 -- a search that was told first, and didn't come further
-pub search_begun : (holding : Option (List ℕ → List ℕ)) (file : List ℕ) (source : List ℕ) (code : Compiled) (search_options : SearchOptions) (prefix : Option (List ℕ)) (known : List (Shown Entry End)) (a b : Option (List ℕ)) (files files' : Option (List MadeFile)) → IsHeld holding file source → IsDesignOf source code
-    → ((first : List ℕ) × IsToldFirst source code search_options prefix known first × Appends a b first) → KeepsFiles files files' → HasLeft holding file search_options prefix a b files files'
-search_begun holding file source code search_options prefix known a b files files' held is_design (first, is_first, begins) kept = inr (record {
+pub search_begun : (holding : Option (List ℕ → List ℕ)) (file : List ℕ) (source : List ℕ) (code : Compiled) (search_options : SearchOptions) (prefix : Option (List ℕ)) (early : ToldRaces) (a b : Option (List ℕ)) (files files' : Option (List MadeFile)) → IsHeld holding file source → IsDesignOf source code
+    → ((first : List ℕ) × IsToldFirst source code search_options prefix early first × Appends a b first) → KeepsFiles files files' → HasLeft holding file search_options prefix a b files files'
+search_begun holding file source code search_options prefix early a b files files' held is_design (first, is_first, begins) kept = inr (record {
   source = source;
   held = held;
   design = code;
   is_design = is_design;
-  known = known;
+  early = early;
   first = first;
   is_first = is_first;
   left = inl (begins, kept);
 })
 
 -- a search that was told first and last, and whose journals may not all have been saved
-pub search_left : (holding : Option (List ℕ → List ℕ)) (file : List ℕ) (source : List ℕ) (code : Compiled) (search_options : SearchOptions) (prefix : Option (List ℕ)) (known : List (Shown Entry End)) (claim : Claim) (shown : List (Shown Entry End)) (endless : Option (List Entry)) (a b c : Option (List ℕ))
-    (files tried files' : Option (List MadeFile)) (last : List ℕ) → IsHeld holding file source → IsDesignOf source code → ((first : List ℕ) × IsToldFirst source code search_options prefix known first × Appends a b first)
-    → AreFound code search_options claim shown endless → Extends known shown → IsToldLast search_options prefix claim shown last → KeepsFiles files tried
+pub search_left : (holding : Option (List ℕ → List ℕ)) (file : List ℕ) (source : List ℕ) (code : Compiled) (search_options : SearchOptions) (prefix : Option (List ℕ)) (early : ToldRaces) (claim : Claim) (shown : List (Shown Entry End)) (endless : Option (List Entry)) (a b c : Option (List ℕ))
+    (files tried files' : Option (List MadeFile)) (last : List ℕ) → IsHeld holding file source → IsDesignOf source code → ((first : List ℕ) × IsToldFirst source code search_options prefix early first × Appends a b first)
+    → AreFound code search_options claim shown endless → Extends early.known.items shown → IsToldBehind source code search_options prefix early.races claim shown last → KeepsFiles files tried
     → (Keeps b c × KeepsFiles tried files') ⊎ (Appends b c last × SavesSomeWhereAsked tried files' prefix (journals_of shown endless)) → HasLeft holding file search_options prefix a c files files'
-search_left holding file source code search_options prefix known claim shown endless a b c files tried files' last held is_design (first, is_first, begins) are_found grown is_last kept (inl (same, saved)) = inr (record {
+unfolding found_behind
+search_left holding file source code search_options prefix early claim shown endless a b c files tried files' last held is_design (first, is_first, begins) are_found grown is_last kept (inl (same, saved)) = inr (record {
   source = source;
   held = held;
   design = code;
   is_design = is_design;
-  known = known;
+  early = early;
   first = first;
   is_first = is_first;
   left = inl (appends_kept a b c first begins same, kept_on files tried files' kept saved);
 })
-search_left holding file source code search_options prefix known claim shown endless a b c files tried files' last held is_design (first, is_first, begins) are_found grown is_last kept (inr (ends, saved)) = inr (record {
+search_left holding file source code search_options prefix early claim shown endless a b c files tried files' last held is_design (first, is_first, begins) are_found grown is_last kept (inr (ends, saved)) = inr (record {
   source = source;
   held = held;
   design = code;
   is_design = is_design;
-  known = known;
+  early = early;
   first = first;
   is_first = is_first;
   left = inr (record {
     last = last;
-    has_found = record { claim = claim; shown = shown; endless = endless; are_found = are_found; grown = grown; is_last = is_last };
+    has_found = found_behind source code search_options prefix early claim shown endless last are_found grown is_last;
     printed = appends_then a b c first last begins ends;
     saved = some_saved_on files tried files' prefix (journals_of shown endless) kept saved;
   });
 })
 
 -- what is left where a search ended for want of memory behind its races
-pub texts_left : (holding : Option (List ℕ → List ℕ)) (file : List ℕ) (source : List ℕ) (code : Compiled) (search_options : SearchOptions) (prefix : Option (List ℕ)) (known : List (Shown Entry End)) (claim : Claim) (shown : List (Shown Entry End)) (endless : Option (List Entry)) (a b c : Option (List ℕ))
-    (files tried files' : Option (List MadeFile)) (last : List ℕ) (r : Result SearchFinding CommandFault) → IsHeld holding file source → IsDesignOf source code → ((first : List ℕ) × IsToldFirst source code search_options prefix known first × Appends a b first)
-    → AreFound code search_options claim shown endless → Extends known shown → IsToldLast search_options prefix claim shown last → KeepsFiles files tried
+pub texts_left : (holding : Option (List ℕ → List ℕ)) (file : List ℕ) (source : List ℕ) (code : Compiled) (search_options : SearchOptions) (prefix : Option (List ℕ)) (early : ToldRaces) (claim : Claim) (shown : List (Shown Entry End)) (endless : Option (List Entry)) (a b c : Option (List ℕ))
+    (files tried files' : Option (List MadeFile)) (last : List ℕ) (r : Result SearchFinding CommandFault) → IsHeld holding file source → IsDesignOf source code → ((first : List ℕ) × IsToldFirst source code search_options prefix early first × Appends a b first)
+    → AreFound code search_options claim shown endless → Extends early.known.items shown → IsToldBehind source code search_options prefix early.races claim shown last → KeepsFiles files tried
     → IfErr r (λ f. status_of f ≡ 6 → (Keeps b c × KeepsFiles tried files') ⊎ (Appends b c last × SavesSomeWhereAsked tried files' prefix (journals_of shown endless)))
     → IfErr r (λ f. status_of f ≡ 6 → HasLeft holding file search_options prefix a c files files')
-texts_left holding file source code search_options prefix known claim shown endless a b c files tried files' last (Ok found) held is_design first are_found grown is_last kept h = tt
-texts_left holding file source code search_options prefix known claim shown endless a b c files tried files' last (Err f) held is_design first are_found grown is_last kept h =
-    λ six. search_left holding file source code search_options prefix known claim shown endless a b c files tried files' last held is_design first are_found grown is_last kept (h six)
+texts_left holding file source code search_options prefix early claim shown endless a b c files tried files' last (Ok found) held is_design first are_found grown is_last kept h = tt
+texts_left holding file source code search_options prefix early claim shown endless a b c files tried files' last (Err f) held is_design first are_found grown is_last kept h =
+    λ six. search_left holding file source code search_options prefix early claim shown endless a b c files tried files' last held is_design first are_found grown is_last kept (h six)
 
 -- what was told, where that went well
-pub texts_shown : (holding : Option (List ℕ → List ℕ)) (file : List ℕ) (source : List ℕ) (code : Compiled) (search_options : SearchOptions) (prefix : Option (List ℕ)) (known : List (Shown Entry End)) (claim : Claim) (shown : List (Shown Entry End)) (endless : Option (List Entry)) (a b c : Option (List ℕ))
-    (files tried files' : Option (List MadeFile)) (last : List ℕ) (r : Result SearchFinding CommandFault) → IsHeld holding file source → IsDesignOf source code → ((first : List ℕ) × IsToldFirst source code search_options prefix known first × Appends a b first)
-    → AreFound code search_options claim shown endless → Extends known shown → IsToldLast search_options prefix claim shown last → KeepsFiles files tried → OnOk r (Appends b c last)
+pub texts_shown : (holding : Option (List ℕ → List ℕ)) (file : List ℕ) (source : List ℕ) (code : Compiled) (search_options : SearchOptions) (prefix : Option (List ℕ)) (early : ToldRaces) (claim : Claim) (shown : List (Shown Entry End)) (endless : Option (List Entry)) (a b c : Option (List ℕ))
+    (files tried files' : Option (List MadeFile)) (last : List ℕ) (r : Result SearchFinding CommandFault) → IsHeld holding file source → IsDesignOf source code → ((first : List ℕ) × IsToldFirst source code search_options prefix early first × Appends a b first)
+    → AreFound code search_options claim shown endless → Extends early.known.items shown → IsToldBehind source code search_options prefix early.races claim shown last → KeepsFiles files tried → OnOk r (Appends b c last)
     → OnOk r (SavesAllWhereAsked tried files' prefix (journals_of shown endless)) → IfOk r (λ found. found ≡ finding_of claim (length shown)) → IfOk r (HasShown holding file search_options prefix a c files files')
-texts_shown holding file source code search_options prefix known claim shown endless a b c files tried files' last (Ok found) held is_design first are_found grown is_last kept ends saved is =
-    search_shown holding file source code search_options prefix known claim shown endless a b c files tried files' last found held is_design first are_found grown is_last ends kept saved is
-texts_shown holding file source code search_options prefix known claim shown endless a b c files tried files' last (Err f) held is_design first are_found grown is_last kept ends saved is = tt
+texts_shown holding file source code search_options prefix early claim shown endless a b c files tried files' last (Ok found) held is_design first are_found grown is_last kept ends saved is =
+    search_shown holding file source code search_options prefix early claim shown endless a b c files tried files' last found held is_design first are_found grown is_last ends kept saved is
+texts_shown holding file source code search_options prefix early claim shown endless a b c files tried files' last (Err f) held is_design first are_found grown is_last kept ends saved is = tt

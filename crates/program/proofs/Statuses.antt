@@ -3,6 +3,7 @@ use Rattle.std.proofs.Common.{◌≡◌, ◌≤◌, ◌==◌, ◌||◌, refl, su
 use Rattle.program.specs.declared.ending.Ending.{Ending}
 use Rattle.program.specs.declared.ending.Ending.TheVariants as ending
 use Rattle.program.specs.declared.finding.SearchFinding.TheVariants as finding
+use Rattle.program.specs.declared.fault.JournalFault.TheVariants as journals
 use Rattle.program.specs.declared.fault.CommandFault.{CommandFault}
 use Rattle.program.specs.declared.fault.CommandFault.TheVariants as fault
 use Rattle.files.specs.declared.fault.FileFault.{FileFault}
@@ -67,6 +68,8 @@ fault_has fault.Memory = refl
 fault_has (fault.Source f) = source_has f
 fault_has (fault.Simulate f) = refl
 fault_has (fault.Replay f) = replay_has f
+fault_has (fault.Journal side (journals.Read f)) = read_has f
+fault_has (fault.Journal side (journals.Replay f)) = cause_has f.cause
 
 stop_has : (s : Stop) → is_stop_status (stop_status s) ≡ true
 stop_has stop.Memory = refl
@@ -114,6 +117,8 @@ fault_few fault.Memory = omega arith
 fault_few (fault.Source f) = source_few f
 fault_few (fault.Simulate f) = omega arith
 fault_few (fault.Replay f) = replay_few f
+fault_few (fault.Journal side (journals.Read f)) = read_few f
+fault_few (fault.Journal side (journals.Replay f)) = cause_few f.cause
 
 pub at_most_seven : (ended : Result Ending CommandFault) → ended_status ended ≤ 7
 at_most_seven (Ok ending.Done) = omega arith
@@ -124,4 +129,5 @@ at_most_seven (Ok (ending.Found finding.Unfinished)) = omega arith
 at_most_seven (Ok (ending.Found finding.Memory)) = omega arith
 at_most_seven (Ok (ending.Found finding.Several)) = omega arith
 at_most_seven (Ok (ending.Wrong text)) = omega arith
+at_most_seven (Ok ending.Differ) = omega arith
 at_most_seven (Err f) = fault_few f

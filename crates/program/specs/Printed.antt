@@ -1,5 +1,5 @@
 -- What a command leaves on standard output and in files.
-use Rattle.std.specs.Prelude.{◌≡◌, ◌⊎◌, ◌++◌, ℕ, Bool, List, Option, Some, None, codes, drop, length, string_bytes, unwrap_or}
+use Rattle.std.specs.Prelude.{◌≡◌, ◌⊎◌, ◌<◌, ◌++◌, ℕ, Bool, true, false, List, Option, Some, None, codes, drop, length, string_bytes, unwrap_or}
 use Rattle.std.specs.Io.KnownBytes.{Appends, Keeps}
 use Rattle.design.specs.Compiled.{Compiled, design_of}
 use Rattle.model.specs.Syntax.{Module}
@@ -7,6 +7,8 @@ use Rattle.explain.specs.Explained.{IsLawfulJournalText}
 use Rattle.explain.specs.ExplainedText.{ExplainsText, ExplainsTextFault, window_of}
 use Rattle.explain.specs.declared.failure.ExplainFault.TheVariants as explaining
 use Rattle.explain.specs.declared.telling.Window.{Window}
+use Rattle.differences.specs.declared.comparison.Comparison.{Comparison}
+use Rattle.differences.specs.Comparisons.{IsComparison}
 use Rattle.replay.specs.declared.fault.ReplayFault.{ReplayFault}
 use Rattle.vparse.specs.Spells.{Spells}
 use Rattle.waves.specs.Dump.{vcd_text}
@@ -28,12 +30,14 @@ use Rattle.model.specs.declared.end.End.{End}
 use Rattle.model.specs.declared.end.Limits.{Limits}
 use Rattle.explore.specs.declared.Shown.{Shown}
 use Rattle.sharing.specs.Parts.{Extends}
-use Rattle.races.specs.declared.told.Found.{Found}
-use Rattle.races.specs.declared.told.RaceBounds.{RaceBounds}
+use Rattle.races.specs.Causes.{AreCauses, HasAnswer}
+use Rattle.races.specs.declared.causes.Causes.{Causes}
 use Rattle.verdict.specs.declared.claim.Claim.{Claim}
 use Rattle.verdict.specs.Verdicts.{verdict_text}
-use Rattle.naming.specs.Naming.{TellsRaces}
+use Rattle.naming.specs.Naming.{TellsMore, TellsRaces}
 use Rattle.arguments.specs.declared.search_options.SearchOptions.{SearchOptions}
+use Rattle.program.specs.declared.racing.NamedRaces.{NamedRaces}
+use Rattle.program.specs.declared.racing.ToldRaces.{ToldRaces}
 use Rattle.program.specs.declared.finding.SearchFinding.{SearchFinding}
 use Rattle.program.specs.declared.finding.SearchFinding.TheVariants as finding
 use Rattle.program.specs.Findings.{AreFound, AreKnown, AreRaces, HaveSomeEnds, finding_of, first_text, journals_of, limits_in}
@@ -46,7 +50,7 @@ use Rattle.program.specs.declared.ending.Ending.{Ending}
 use Rattle.program.specs.declared.ending.Ending.TheVariants as ending
 use Rattle.program.specs.Program.{explain_fault, right_text, source_status_of, stop_of, version_text}
 use Rattle.files.specs.Saved.{AddsFile, IsHeld, IsOpened, MadeFile, KeepsFiles, SavesAllWhereAsked, SavesSomeWhereAsked, SavesWhereAsked}
-use Rattle.arguments.specs.CommandWords.{AsksHelp, Begins, check_rows, explain_rows, search_options_of, number_given, options_of, races_rows, replay_rows, run_rows, waves_rows}
+use Rattle.arguments.specs.CommandWords.{AsksHelp, Begins, check_rows, diff_rows, explain_rows, search_options_of, number_given, options_of, races_rows, replay_rows, run_rows, waves_rows}
 
 -- the limits of a run
 abbrev pub run_limits_of : RunOptions → Limits
@@ -131,13 +135,24 @@ pub record HasRun (holding : Option (List ℕ → List ℕ)) (words : List Text)
   pub is_file : NamesFile (run_rows (drop 1 words)) file
   pub printed : HasPrintedBy holding file (number_given (codes "seed") (run_rows (drop 1 words))) (options_of (run_rows (drop 1 words))) (first_of (codes "journal") (run_rows (drop 1 words))) old new files files' told
 
--- What is told before a search: the races that were found in the design of a source, with the numbers of journals of texts that are known from then on.
-pub record IsToldFirst (source : List ℕ) (design : Compiled) (search_options : SearchOptions) (prefix : Option (List ℕ)) (known : List (Shown Entry End)) (first : List ℕ) : Type 0 where
-  pub race_bounds : RaceBounds
-  pub found : Found
-  pub are_races : AreRaces design (limits_in search_options) race_bounds found
-  pub are_known : AreKnown design search_options found known
-  pub tells : TellsRaces source design known prefix race_bounds found first
+-- What is told before a search: the races that were found in the design of a source, those that part texts which are known before the others, with the numbers of
+-- journals of texts that are known from then on. Where there are several, a race is named, or a text is left for which none is, or a bound was met.
+pub record IsToldFirst (source : List ℕ) (design : Compiled) (search_options : SearchOptions) (prefix : Option (List ℕ)) (early : ToldRaces) (first : List ℕ) : Type 0 where
+  pub are_races : AreRaces design (limits_in search_options) early.races.bounds early.races.found
+  pub are_known : AreKnown design search_options early.races.found early.known.items
+  pub are_causes : AreCauses design (limits_in search_options) early.races.bounds early.races.found early.races.causes
+  pub answered : 1 < length early.known.items → HasAnswer early.races.found early.races.causes
+  pub texts : early.races.texts ≡ length early.known.items
+  pub tells : TellsRaces source design early.known.items prefix early.races.bounds early.races.found early.races.causes.causes.items first
+
+-- What is told behind a search, after these races: races that part texts, behind those that were told before, and the texts for which none was found. Where there are several
+-- texts, a race is named, or a text is left for which none is, or a bound was met.
+pub record IsToldMore (source : List ℕ) (design : Compiled) (search_options : SearchOptions) (prefix : Option (List ℕ)) (races : NamedRaces) (shown : List (Shown Entry End)) (more : List ℕ) : Type 0 where
+  pub causes : Causes
+  pub are_causes : AreCauses design (limits_in search_options) races.bounds races.found causes
+  pub grown : Extends races.causes.causes.items causes.causes.items
+  pub answered : 1 < length shown → HasAnswer races.found causes
+  pub tells : TellsMore source design shown prefix races.bounds races.found (length races.causes.causes.items) causes more
 
 -- What is said of texts behind a search: what they are, and whether their ends tell them apart too.
 pub record IsToldLast (search_options : SearchOptions) (prefix : Option (List ℕ)) (claim : Claim) (shown : List (Shown Entry End)) (last : List ℕ) : Type 0 where
@@ -145,14 +160,19 @@ pub record IsToldLast (search_options : SearchOptions) (prefix : Option (List �
   pub apart : HaveSomeEnds shown ends
   pub text_is : last ≡ verdict_text claim search_options.until (length shown) ends (first_text shown) prefix
 
--- What is said of a search, after races were told and these texts were known: texts were found, with those that were known before all others, and this is said of them.
-pub record HasFound (design : Compiled) (search_options : SearchOptions) (prefix : Option (List ℕ)) (known : List (Shown Entry End)) (last : List ℕ) : Type 0 where
+-- What is said of a search, after these races were told and these texts were known: texts were found, with those that were known before all others, and further races and
+-- this are told of them.
+pub record HasFound (source : List ℕ) (design : Compiled) (search_options : SearchOptions) (prefix : Option (List ℕ)) (early : ToldRaces) (last : List ℕ) : Type 0 where
   pub claim : Claim
   pub shown : List (Shown Entry End)
   pub endless : Option (List Entry)
   pub are_found : AreFound design search_options claim shown endless
-  pub grown : Extends known shown
-  pub is_last : IsToldLast search_options prefix claim shown last
+  pub grown : Extends early.known.items shown
+  pub more : List ℕ
+  pub is_more : IsToldMore source design search_options prefix early.races shown more
+  pub said : List ℕ
+  pub is_said : IsToldLast search_options prefix claim shown said
+  pub last_is : last ≡ more ++ said
 
 -- Of the design that the source in a file describes races were told, and then what was found of its texts, so far as this says. Output grew by both, the journals of the texts, and of a run that comes to no
 -- end, were saved where a prefix is given, and this is what it has come to.
@@ -161,11 +181,11 @@ pub record HasShown (holding : Option (List ℕ → List ℕ)) (file : List ℕ)
   pub held : IsHeld holding file source
   pub design : Compiled
   pub is_design : IsDesignOf source design
-  pub known : List (Shown Entry End)
+  pub early : ToldRaces
   pub first : List ℕ
-  pub is_first : IsToldFirst source design search_options prefix known first
+  pub is_first : IsToldFirst source design search_options prefix early first
   pub last : List ℕ
-  pub has_found : HasFound design search_options prefix known last
+  pub has_found : HasFound source design search_options prefix early last
   pub printed : Appends old new (first ++ last)
   pub saved : SavesAllWhereAsked files files' prefix (journals_of has_found.shown has_found.endless)
   pub finding : found ≡ finding_of has_found.claim (length has_found.shown)
@@ -184,9 +204,9 @@ abbrev pub AreUntouched : Option (List ℕ) → Option (List ℕ) → Option (Li
 AreUntouched old new files files' = Keeps old new × KeepsFiles files files'
 
 -- Behind races that were told output grew by what is said of a search, and of its journals a beginning was saved where a prefix is given, and else none.
-pub record HasSavedSome (design : Compiled) (search_options : SearchOptions) (prefix : Option (List ℕ)) (known : List (Shown Entry End)) (first : List ℕ) (old new : Option (List ℕ)) (files files' : Option (List MadeFile)) : Type 0 where
+pub record HasSavedSome (source : List ℕ) (design : Compiled) (search_options : SearchOptions) (prefix : Option (List ℕ)) (early : ToldRaces) (first : List ℕ) (old new : Option (List ℕ)) (files files' : Option (List MadeFile)) : Type 0 where
   pub last : List ℕ
-  pub has_found : HasFound design search_options prefix known last
+  pub has_found : HasFound source design search_options prefix early last
   pub printed : Appends old new (first ++ last)
   pub saved : SavesSomeWhereAsked files files' prefix (journals_of has_found.shown has_found.endless)
 
@@ -197,10 +217,10 @@ pub record HasBegun (holding : Option (List ℕ → List ℕ)) (file : List ℕ)
   pub held : IsHeld holding file source
   pub design : Compiled
   pub is_design : IsDesignOf source design
-  pub known : List (Shown Entry End)
+  pub early : ToldRaces
   pub first : List ℕ
-  pub is_first : IsToldFirst source design search_options prefix known first
-  pub left : (Appends old new first × KeepsFiles files files') ⊎ HasSavedSome design search_options prefix known first old new files files'
+  pub is_first : IsToldFirst source design search_options prefix early first
+  pub left : (Appends old new first × KeepsFiles files files') ⊎ HasSavedSome source design search_options prefix early first old new files files'
 
 -- a search left nothing, or came so far
 abbrev pub HasLeft : Option (List ℕ → List ℕ) → List ℕ → SearchOptions → Option (List ℕ) → Option (List ℕ) → Option (List ℕ) → Option (List MadeFile) → Option (List MadeFile) → Type 0
@@ -313,6 +333,45 @@ pub record HasWaves (holding : Option (List ℕ → List ℕ)) (words : List Tex
   pub dumped : HasDumped holding file journal path files files'
   pub unprinted : Keeps old new
 
+-- Two journals that were left to read were compared on the design of a source, and this is told of them.
+pub record ComparesJournals (source : List ℕ) (first second : Option (List ℕ)) (told : Comparison) : Type 0 where
+  pub design : Compiled
+  pub one : List Entry
+  pub one_read : AreRead source first design one
+  pub other : List Entry
+  pub other_read : AreRead source second design other
+  pub is_told : IsComparison source design one other told
+
+-- What is in two journals' files, where that is known, was compared on the design that the source in a file describes. Output grew by what
+-- is told of them, and this says whether they are the same.
+pub record HasComparedFiles (holding : Option (List ℕ → List ℕ)) (file first second : List ℕ) (old new : Option (List ℕ)) (same : Bool) : Type 0 where
+  pub source : List ℕ
+  pub held : IsHeld holding file source
+  pub one : Option (List ℕ)
+  pub one_opened : IsOpened holding first one
+  pub other : Option (List ℕ)
+  pub other_opened : IsOpened holding second other
+  pub told : Comparison
+  pub compares : ComparesJournals source one other told
+  pub printed : Appends old new told.text.items
+  pub same_is : told.same ≡ same
+
+-- The words ask for a comparison of their J1 and J2 on their FILE, and so it was made.
+pub record HasCompared (holding : Option (List ℕ → List ℕ)) (words : List Text) (old new : Option (List ℕ)) (files files' : Option (List MadeFile)) (same : Bool) : Type 0 where
+  pub begins : Begins words (codes "diff")
+  pub file : List ℕ
+  pub is_file : NamesFile (diff_rows (drop 1 words)) file
+  pub first : List ℕ
+  pub is_first : first_of (codes "J1") (diff_rows (drop 1 words)) ≡ Some first
+  pub second : List ℕ
+  pub is_second : first_of (codes "J2") (diff_rows (drop 1 words)) ≡ Some second
+  pub compared : HasComparedFiles holding file first second old new same
+  pub unsaved : KeepsFiles files files'
+
+-- what was found differs: a search found several texts, or two journals aren't the same
+abbrev pub HaveDiffered : Option (List ℕ → List ℕ) → List Text → Option (List ℕ) → Option (List ℕ) → Option (List MadeFile) → Option (List MadeFile) → Type 0
+HaveDiffered holding words old new files files' = HasSearched holding words old new files files' finding.Several ⊎ HasCompared holding words old new files files' false
+
 -- the source in a file, which was checked, describes a design
 pub record IsRight (holding : Option (List ℕ → List ℕ)) (file : List ℕ) : Type 0 where
   pub source : List ℕ
@@ -351,7 +410,7 @@ pub record HasConfirmed (holding : Option (List ℕ → List ℕ)) (words : List
 -- left its lines and its journal and wasn't stopped by a limit; or they ask for a replay, which left its lines; or for a search
 -- for races, which found one text and no other possible one; or for a check of a source, which is right; or for a value change
 -- dump, which stands in its place; or to be told a journal,
--- which is lawful.
+-- which is lawful; or for a comparison of two journals, which are the same.
 pub data IsDone (holding : Option (List ℕ → List ℕ)) (words : List Text) (old new : Option (List ℕ)) (files files' : Option (List MadeFile)) : Type 0 where
   helped : AsksHelp words → (text : List ℕ) → Appends old new text → KeepsFiles files files' → IsDone holding words old new files files'
   versioned : Begins words (codes "--version") → Appends old new version_text → KeepsFiles files files' → IsDone holding words old new files files'
@@ -361,6 +420,7 @@ pub data IsDone (holding : Option (List ℕ → List ℕ)) (words : List Text) (
   checked : HasConfirmed holding words old new files files' → IsDone holding words old new files files'
   dumped : HasWaves holding words old new files files' → IsDone holding words old new files files'
   explained : HasExplainedByWords holding words old new files files' → IsDone holding words old new files files'
+  compared : HasCompared holding words old new files files' true → IsDone holding words old new files files'
 
 -- The words ask for a check of their FILE, which is wrong, and nothing was left on output.
 pub record HasRefused (holding : Option (List ℕ → List ℕ)) (words : List Text) (old new : Option (List ℕ)) (files files' : Option (List MadeFile)) : Type 0 where
@@ -377,6 +437,7 @@ HasEnded holding words old new files files' ending.Done = IsDone holding words o
 HasEnded holding words old new files files' (ending.Stopped stop) = HasRun holding words old new files files' (Some stop)
 HasEnded holding words old new files files' (ending.Found found) = HasSearched holding words old new files files' found
 HasEnded holding words old new files files' (ending.Wrong text) = HasRefused holding words old new files files'
+HasEnded holding words old new files files' ending.Differ = HasCompared holding words old new files files' false
 
 -- What is left where memory was refused, or a worker couldn't be started, before anything was done: output and files as they were; or of a search, what it left before
 -- its end; or where the words ask to be told a journal, the files as they were.

@@ -1,5 +1,5 @@
 -- The exit statuses of the program.
-use Rattle.std.specs.Prelude.{◌≡◌, ◌⊎◌, ℕ, List, [], Option, Some, None, Result, Ok, Err, string_bytes, codes, ◌∷◌, ◌++◌}
+use Rattle.std.specs.Prelude.{◌≡◌, ◌⊎◌, ℕ, Bool, true, false, List, [], Option, Some, None, Result, Ok, Err, string_bytes, codes, ◌∷◌, ◌++◌}
 use Rattle.model.specs.declared.end.End.{End}
 use Rattle.model.specs.declared.end.End.TheVariants as end
 use Rattle.model.specs.declared.end.Why.{Why}
@@ -8,6 +8,8 @@ use Rattle.arguments.specs.declared.request.NoRequest.{NoRequest}
 use Rattle.arguments.specs.declared.request.NoRequest.TheVariants as no_request
 use Rattle.program.specs.declared.fault.CommandFault.{CommandFault}
 use Rattle.program.specs.declared.fault.CommandFault.TheVariants as fault
+use Rattle.program.specs.declared.fault.JournalFault.{JournalFault}
+use Rattle.program.specs.declared.fault.JournalFault.TheVariants as journals
 use Rattle.program.specs.declared.ending.Ending.{Ending}
 use Rattle.program.specs.declared.ending.Ending.TheVariants as ending
 use Rattle.program.specs.declared.finding.SearchFinding.{SearchFinding}
@@ -60,6 +62,11 @@ replay_status_of (replaying.Read f) = read_status_of f
 replay_status_of (replaying.Replay f) = cause_status_of f.cause
 replay_status_of replaying.CannotWrite = 1
 
+-- a fault of one of two journals: of its text, or of an entry
+abbrev pub journal_status_of : JournalFault → ℕ
+journal_status_of (journals.Read f) = read_status_of f
+journal_status_of (journals.Replay f) = cause_status_of f.cause
+
 -- 1 files and output, 3 a source, 5 a journal, 6 memory or a worker that couldn't be started
 abbrev pub status_of : CommandFault → ℕ
 status_of (fault.Files f) = file_status f
@@ -67,6 +74,7 @@ status_of fault.Memory = 6
 status_of (fault.Source f) = source_status_of f
 status_of (fault.Simulate f) = simulate_status_of f
 status_of (fault.Replay f) = replay_status_of f
+status_of (fault.Journal side f) = journal_status_of f
 
 -- a fault of a journal that is told in words: that of a replay, where a replay has it
 abbrev pub explain_fault : ExplainFault → CommandFault
@@ -107,6 +115,11 @@ abbrev pub ending_of : Option Stop → Ending
 ending_of (Some s) = ending.Stopped s
 ending_of None = ending.Done
 
+-- how a comparison ended, by whether the journals are the same
+abbrev pub compared_ending : Bool → Ending
+compared_ending true = ending.Done
+compared_ending false = ending.Differ
+
 -- 0 for one text and no other, 4 where others may be possible, 6 where memory was refused to the search, 7 for several texts
 abbrev pub finding_status : SearchFinding → ℕ
 finding_status finding.One = 0
@@ -114,12 +127,13 @@ finding_status finding.Unfinished = 4
 finding_status finding.Memory = 6
 finding_status finding.Several = 7
 
--- 0 for what was done, 3 for a source with a fault
+-- 0 for what was done, 3 for a source with a fault, 7 for journals that differ
 abbrev pub ending_status : Ending → ℕ
 ending_status ending.Done = 0
 ending_status (ending.Stopped s) = stop_status s
 ending_status (ending.Found f) = finding_status f
 ending_status (ending.Wrong text) = 3
+ending_status ending.Differ = 7
 
 -- a command that came to its end, or that met a fault
 abbrev pub ended_status : Result Ending CommandFault → ℕ

@@ -16,6 +16,10 @@ use Rattle.journal.specs.declared.fault.ReadFault.TheVariants as reading
 use Rattle.explain.specs.ExplainedEnd.{code_text}
 use Rattle.replay.specs.declared.fault.BytesFault.{BytesFault}
 use Rattle.replay.specs.declared.fault.BytesFault.TheVariants as replaying
+use Rattle.differences.specs.declared.fault.JournalSide.{JournalSide}
+use Rattle.differences.specs.declared.fault.JournalSide.TheVariants as sides
+use Rattle.program.specs.declared.fault.JournalFault.{JournalFault}
+use Rattle.program.specs.declared.fault.JournalFault.TheVariants as journals
 use Rattle.program.specs.declared.fault.CommandFault.{CommandFault}
 use Rattle.program.specs.declared.fault.CommandFault.TheVariants as fault
 use Rattle.program.specs.declared.fault.Stop.{Stop}
@@ -56,15 +60,33 @@ abbrev pub simulate_line : SimFault → List ℕ
 simulate_line simulation.Memory = program_line (codes "memory") [] []
 simulate_line simulation.NoWorker = program_line (codes "cannot start worker") [] []
 
--- a journal that isn't read: lines are counted from 1
+-- a journal that isn't read, with a text behind it: lines are counted from 1
+abbrev pub unread_with : List ℕ → ReadFault → List ℕ
+unread_with tail reading.Header = program_line (codes "Q1 journal header") [] tail
+unread_with tail (reading.Line number) = program_line (codes "Q2 journal line ") (decimal number) tail
+unread_with tail reading.Cut = program_line (codes "Q3 journal ends without newline") [] tail
+unread_with tail reading.Read = program_line (codes "Q4 journal read error") [] tail
+unread_with tail reading.Memory = program_line (codes "Q5 memory") [] tail
+unread_with tail (reading.Count number) = program_line (codes "Q6 journal count at line ") (decimal number) tail
+unread_with tail reading.Uncounted = program_line (codes "Q7 journal cut") [] tail
+
+-- the same alone
 abbrev pub read_line : ReadFault → List ℕ
-read_line reading.Header = program_line (codes "Q1 journal header") [] []
-read_line (reading.Line number) = program_line (codes "Q2 journal line ") (decimal number) []
-read_line reading.Cut = program_line (codes "Q3 journal ends without newline") [] []
-read_line reading.Read = program_line (codes "Q4 journal read error") [] []
-read_line reading.Memory = program_line (codes "Q5 memory") [] []
-read_line (reading.Count number) = program_line (codes "Q6 journal count at line ") (decimal number) []
-read_line reading.Uncounted = program_line (codes "Q7 journal cut") [] []
+read_line f = unread_with [] f
+
+-- which of two journals has a fault: before the number of an entry, and behind a fault of its text
+abbrev pub entry_head : JournalSide → List ℕ
+entry_head sides.First = codes "first journal: entry "
+entry_head sides.Second = codes "second journal: entry "
+
+abbrev pub journal_tail : JournalSide → List ℕ
+journal_tail sides.First = codes " (first journal)"
+journal_tail sides.Second = codes " (second journal)"
+
+-- a fault of one of two journals
+abbrev pub journal_line : JournalSide → JournalFault → List ℕ
+journal_line side (journals.Read f) = unread_with (journal_tail side) f
+journal_line side (journals.Replay f) = program_line (entry_head side) (decimal f.entry) (code_text f.cause)
 
 -- a replay: entries are counted from 1
 abbrev pub replay_line : BytesFault → List ℕ
@@ -86,6 +108,7 @@ fault_line fault.Memory = program_line (codes "memory") [] []
 fault_line (fault.Source f) = source_line f
 fault_line (fault.Simulate f) = simulate_line f
 fault_line (fault.Replay f) = replay_line f
+fault_line (fault.Journal side f) = journal_line side f
 
 -- the line of a stop: processes are counted from 0
 abbrev pub stop_line : Stop → List ℕ

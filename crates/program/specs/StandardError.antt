@@ -29,6 +29,7 @@ IsEndingTold contents old new ending.Done = new ≡ old
 IsEndingTold contents old new (ending.Stopped s) = Tells contents old new (stop_line s)
 IsEndingTold contents old new (ending.Found f) = IsFindingTold contents old new f
 IsEndingTold contents old new (ending.Wrong text) = Tells contents old new (string_bytes text)
+IsEndingTold contents old new ending.Differ = new ≡ old
 
 -- so it is of a command that came to its end, and of another the line of its fault
 abbrev pub IsEndTold : {E : Type 0} → (E → Option (List ℕ)) → Counted E → Counted E → Result Ending CommandFault → Type 0

@@ -3,7 +3,7 @@
 ghost use Rattle.std.specs.Prelude.{◌≡◌};
 ghost use Rattle.telling.specs.FaultLines.{Tells};
 ghost use Rattle.program.specs.ProgramLines.{fault_line};
-ghost use Rattle.program.specs.Program.{ending_status, ended_status, ending_of, status_of};
+ghost use Rattle.program.specs.Program.{compared_ending, ending_status, ended_status, ending_of, status_of};
 ghost use Rattle.program.specs.StandardError.{IsEndTold, IsEndingTold, IsFindingTold};
 
 use crate::fault::{CommandFault, Stop};
@@ -14,13 +14,14 @@ use std::io::Write;
 use telling::{tell, tell_text};
 
 /// A command did what was asked, or its run was stopped, or its search found this, or this is wrong with the source that it
-/// checked.
+/// checked, or the journals that it compared differ.
 #[derive(Drop)]
 pub enum Ending {
     Done,
     Stopped(Stop),
     Found(SearchFinding),
     Wrong(String),
+    Differ,
 }
 
 impl Ending {
@@ -34,6 +35,16 @@ impl Ending {
         }
     }
 
+    /// How a comparison ended, by whether the journals are the same.
+    pub fn of_comparison(same: bool) -> Ending
+        ensures { result ≡ compared_ending same }
+    {
+        match same {
+            true => Ending::Done,
+            false => Ending::Differ,
+        }
+    }
+
     /// The exit status.
     fn status(&self) -> u8
         ensures { result ≡ ending_status self.now }
@@ -43,6 +54,7 @@ impl Ending {
             Ending::Stopped(stop) => stop.status(),
             Ending::Found(finding) => finding.status(),
             Ending::Wrong(_) => 3,
+            Ending::Differ => 7,
         }
     }
 }
@@ -66,7 +78,7 @@ fn tell_ending<E: Write>(ending: &Ending, err: &mut Counted<E>)
     ensures { IsEndingTold E.contents err.old err.new ending.now }
 {
     match ending {
-        Ending::Done => {}
+        Ending::Done | Ending::Differ => {}
         Ending::Found(found) => tell_finding(*found, err),
         Ending::Stopped(stop) => tell(err, &stop_line(*stop)),
         Ending::Wrong(text) => tell_text(err, text.as_str()),

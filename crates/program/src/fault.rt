@@ -1,19 +1,27 @@
 //! What can go wrong in a command, with its exit status.
 
 ghost use Rattle.std.specs.Prelude.{◌≡◌};
-ghost use Rattle.program.specs.Program.{status_of, IsEnded, stop_of, stop_for, stop_status, source_status_of, simulate_status_of, read_status_of, cause_status_of, replay_status_of};
+ghost use Rattle.program.specs.Program.{status_of, IsEnded, stop_of, stop_for, stop_status, source_status_of, simulate_status_of, read_status_of, cause_status_of, journal_status_of, replay_status_of};
 
+use differences::JournalSide;
 use elaborate::ElabFault;
 use files::FileFault;
 use frontend::SourceFault;
 use journal::ReadFault;
 use model::end::{End, Why};
-use replay::{BytesFault, Cause};
+use replay::{BytesFault, Cause, ReplayFault};
 use simulate::SimFault;
 use std::alloc::AllocError;
 use vparse::ParseFault;
 
-/// A fault of files or output, want of memory, or a fault of a layer.
+/// Why a journal isn't taken: it isn't read, or isn't replayed to its end.
+#[derive(Clone, Copy)]
+pub enum JournalFault {
+    Read(ReadFault),
+    Replay(ReplayFault),
+}
+
+/// A fault of files or output, want of memory, a fault of a layer, or of one of two journals.
 #[derive(Drop)]
 pub enum CommandFault<'a> {
     Files(FileFault<'a>),
@@ -21,6 +29,7 @@ pub enum CommandFault<'a> {
     Source(SourceFault),
     Simulate(SimFault),
     Replay(BytesFault),
+    Journal(JournalSide, JournalFault),
 }
 
 impl<'a> From<FileFault<'a>> for CommandFault<'a> {
@@ -113,6 +122,7 @@ impl CommandFault<'_> {
             CommandFault::Source(fault) => source_status(fault),
             CommandFault::Simulate(fault) => simulate_status(fault),
             CommandFault::Replay(fault) => replay_status(fault),
+            CommandFault::Journal(_, fault) => journal_status(*fault),
         }
     }
 }
@@ -145,6 +155,16 @@ fn replay_status(fault: &BytesFault) -> u8
         BytesFault::Read(fault) => read_status(*fault),
         BytesFault::Replay(fault) => cause_status(fault.cause),
         BytesFault::CannotWrite => 1,
+    }
+}
+
+/// The exit status of a fault of one of two journals: that of its text, or of an entry.
+fn journal_status(fault: JournalFault) -> u8
+    ensures { result ≡ journal_status_of fault }
+{
+    match fault {
+        JournalFault::Read(fault) => read_status(fault),
+        JournalFault::Replay(fault) => cause_status(fault.cause),
     }
 }
 

@@ -1,9 +1,9 @@
 //! The program `vsimtx` as a library: it runs one Verilog module on several workers or by a seed, replays the journal of a run,
 //! and prints the lines; or it searches all lawful orders of the module and tells their texts; or it writes the registers of a journal
-//! over time as a value change dump, or tells it in words.
+//! over time as a value change dump, or tells it in words, or compares it with another.
 //!
-//! 1. `running` is a run, `replaying` a replay, `checking` a check, `waving` a value change dump, `explaining` a journal in words, and
-//!    `searching` a search for races: `racing` tells them first, `known` has texts that are known then, and `finding` says what it has
+//! 1. `running` is a run, `replaying` a replay, `checking` a check, `waving` a value change dump, `explaining` a journal in words,
+//!    `differing` two journals beside each other, and `searching` a search for races: `racing` tells them first, `known` has texts that are known then, and `finding` says what it has
 //!    come to. `observing` looks on at a run on workers.
 //! 2. `ending` is how a command ended: it has the status, and tells what is to be told.
 //! 3. `fault` has the faults with their statuses, and `lines` their lines on standard error.
@@ -11,6 +11,7 @@
 #![tactic(auto)]
 
 mod checking;
+mod differing;
 mod ending;
 mod explaining;
 mod fault;

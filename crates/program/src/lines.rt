@@ -1,10 +1,11 @@
 //! The line on standard error of each fault and of each stop.
 
 ghost use Rattle.std.specs.Prelude.{◌≡◌};
-ghost use Rattle.telling.specs.FaultLines.{line_of};
-ghost use Rattle.program.specs.ProgramLines.{fault_line, file_line, stop_line, source_line, parse_line, module_line, simulate_line, replay_line, read_line};
+ghost use Rattle.telling.specs.FaultLines.{line_of, program_line, subject_text};
+ghost use Rattle.program.specs.ProgramLines.{fault_line, file_line, stop_line, source_line, parse_line, module_line, simulate_line, replay_line, read_line, journal_line, entry_head, journal_tail, unread_with};
 
-use crate::fault::{CommandFault, Stop};
+use crate::fault::{CommandFault, JournalFault, Stop};
+use differences::JournalSide;
 use elaborate::ElabFault;
 use explain::cause_code;
 use files::FileFault;
@@ -25,6 +26,7 @@ pub fn fault_line<'a>(fault: &'a CommandFault<'_>) -> SubjectLine<'a>
         CommandFault::Source(fault) => source_line(fault),
         CommandFault::Simulate(fault) => simulate_line(fault),
         CommandFault::Replay(fault) => replay_line(fault),
+        CommandFault::Journal(side, fault) => journal_line(*side, *fault),
     }
 }
 
@@ -131,17 +133,77 @@ fn replay_line(fault: &BytesFault) -> SubjectLine<'_>
     }
 }
 
+/// What stands before the number of an entry of one of two journals.
+fn entry_head(side: JournalSide) -> &'static str
+    ensures { result.now ≡ entry_head side }
+{
+    match side {
+        JournalSide::First => "first journal: entry ",
+        JournalSide::Second => "second journal: entry ",
+    }
+}
+
+/// What stands behind a fault of the text of one of two journals.
+fn journal_tail(side: JournalSide) -> &'static str
+    ensures { result.now ≡ journal_tail side }
+{
+    match side {
+        JournalSide::First => " (first journal)",
+        JournalSide::Second => " (second journal)",
+    }
+}
+
+/// The line of a fault of one of two journals: of its text, or of an entry.
+fn journal_line(side: JournalSide, fault: JournalFault) -> SubjectLine<'static>
+    ensures { line_of result ≡ journal_line side fault }
+{
+    match fault {
+        JournalFault::Read(fault) => unread_line(fault, journal_tail(side)),
+        JournalFault::Replay(fault) => told_with(
+            entry_head(side),
+            Subject::Number(fault.entry),
+            cause_code(fault.cause),
+        ),
+    }
+}
+
 /// The line of a fault of a journal's text, with the line at which it stands, where it tells one.
 fn read_line(fault: ReadFault) -> SubjectLine<'static>
     ensures { line_of result ≡ read_line fault }
 {
+    unread_line(fault, "")
+}
+
+/// The line of a fault of a journal's text, with a text behind it.
+fn unread_line(fault: ReadFault, tail: &'static str) -> SubjectLine<'static>
+    ensures { line_of result ≡ unread_with tail.entry.now fault }
+{
     match fault {
-        ReadFault::Header => SubjectLine::plain("Q1 journal header"),
-        ReadFault::Line(number) => SubjectLine::numbered("Q2 journal line ", number),
-        ReadFault::Cut => SubjectLine::plain("Q3 journal ends without newline"),
-        ReadFault::Read => SubjectLine::plain("Q4 journal read error"),
-        ReadFault::Memory => SubjectLine::plain("Q5 memory"),
-        ReadFault::Count(number) => SubjectLine::numbered("Q6 journal count at line ", number),
-        ReadFault::Uncounted => SubjectLine::plain("Q7 journal cut"),
+        ReadFault::Header => told_with("Q1 journal header", Subject::Nothing, tail),
+        ReadFault::Line(number) => told_with("Q2 journal line ", Subject::Number(number), tail),
+        ReadFault::Cut => told_with("Q3 journal ends without newline", Subject::Nothing, tail),
+        ReadFault::Read => told_with("Q4 journal read error", Subject::Nothing, tail),
+        ReadFault::Memory => told_with("Q5 memory", Subject::Nothing, tail),
+        ReadFault::Count(number) => told_with(
+            "Q6 journal count at line ",
+            Subject::Number(number),
+            tail,
+        ),
+        ReadFault::Uncounted => told_with("Q7 journal cut", Subject::Nothing, tail),
+    }
+}
+
+/// A line of three parts.
+fn told_with(
+    head: &'static str,
+    subject: Subject<'static>,
+    tail: &'static str,
+) -> SubjectLine<'static>
+    ensures { line_of result ≡ program_line head.entry.now (subject_text subject.entry) tail.entry.now }
+{
+    SubjectLine {
+        head,
+        subject,
+        tail,
     }
 }

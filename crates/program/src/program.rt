@@ -10,8 +10,7 @@ ghost use Rattle.clap.specs.Words.{Text};
 ghost use Rattle.std.specs.Io.KnownBytes.{Appends, Keeps};
 ghost use Rattle.journal.specs.Counted.{held};
 ghost use Rattle.arguments.specs.CommandWords.{AreWrong, Asks, AsksExplain, AsksRaces, AsksRun, Begins, IsNoRequest, texts_of};
-ghost use Rattle.program.specs.declared.finding.SearchFinding.TheVariants as finding;
-ghost use Rattle.program.specs.Printed.{AsksCheckOf, HasEnded, HasExplainedPart, HasRefused, HasSearched, IsDone, IsLeft, IsUnprinted};
+ghost use Rattle.program.specs.Printed.{AsksCheckOf, HasEnded, HasExplainedPart, HasRefused, HaveDiffered, IsDone, IsLeft, IsUnprinted};
 ghost use Rattle.program.specs.Program.{IsNoRequestStatus, ended_status, help_text, right_text, status_of, version_text};
 ghost use Rattle.files.specs.Saved.{KeepsFiles};
 ghost use Rattle.program.specs.StandardError.{HasExplainedTold, IsReported, IsUnfinished, IsWanting};
@@ -21,6 +20,7 @@ ghost use Rattle.program.specs.ProgramLines.{fault_line, unread_line};
 ghost use Rattle.telling.specs.FaultLines.{Tells};
 
 use crate::checking::check;
+use crate::differing::diff_journals;
 use crate::ending::{Ending, finish, tell_fault};
 use crate::explaining::explain_journal;
 use crate::fault::CommandFault;
@@ -56,7 +56,7 @@ pub fn command<R: Threads + Wait + Sync, F: Files, O: Write, E: Write>(
     ensures faulty { result ≡ 5 → Begins (texts_of words.now) (codes "explain") → HasExplainedTold (F.held files.old) (texts_of words.now) (O.contents (held out.old)) (O.contents (held out.new)) E.contents err.old err.new }
     ensures stopped { result ≡ 4 → IsUnfinished (F.held files.old) (texts_of words.now) (O.contents (held out.old)) (O.contents (held out.new)) (F.made files.old) (F.made files.new) E.contents err.old err.new }
     ensures wanting { result ≡ 6 → IsWanting (F.held files.old) (texts_of words.now) (O.contents (held out.old)) (O.contents (held out.new)) (F.made files.old) (F.made files.new) E.contents err.old err.new }
-    ensures several { result ≡ 7 → HasSearched (F.held files.old) (texts_of words.now) (O.contents (held out.old)) (O.contents (held out.new)) (F.made files.old) (F.made files.new) finding.Several }
+    ensures several { result ≡ 7 → HaveDiffered (F.held files.old) (texts_of words.now) (O.contents (held out.old)) (O.contents (held out.new)) (F.made files.old) (F.made files.new) }
     ensures nothing { IsUnprinted (texts_of words.now) result → Keeps (O.contents (held out.old)) (O.contents (held out.new)) }
     ensures unsaved { (result ≡ 2) ⊎ ((result ≡ 3) ⊎ (result ≡ 5)) → KeepsFiles (F.made files.old) (F.made files.new) }
     ensures silent { (result ≡ 0) ⊎ (result ≡ 7) → err.new ≡ err.old }
@@ -93,6 +93,7 @@ fn perform<'a, R: Threads + Wait + Sync, F: Files, O: Write>(
         Request::Check(request) => { perform_check(alloc, request.file, request.all, files, out) }
         Request::Explain(request) => perform_explain(alloc, request, files, out),
         Request::Waves(request) => dump_waves(alloc, request, files),
+        Request::Diff(request) => diff_journals(alloc, request, files, out),
         Request::Version => perform_version(out),
     }
 }

@@ -1,5 +1,5 @@
 //! `races FILE`: the file is read, and races are looked for and told. Then the lawful orders are searched, which may take long, or random
-//! ones tried. What is said of their texts is told, and then the journals are written.
+//! ones tried. Races that part the texts which that found, and what is said of the texts, are told, and then the journals are written.
 
 ghost use Rattle.std.specs.Prelude.{◌≡◌, ◌≤◌, ◌⊎◌, ◌∷◌, ◌++◌, IfErr, IfOk, IfSome, List, None, OnOk, Option, [], ◌+◌, length, option_map, ℕ};
 ghost use Rattle.std.specs.Io.KnownBytes.{Appends, Keeps};
@@ -16,7 +16,7 @@ ghost use Rattle.files.specs.Saved.{IsHeld, KeepsFiles, LeadsElsewhere, SavesAll
 use crate::fault::CommandFault;
 use crate::finding::SearchFinding;
 use crate::known::KnownTexts;
-use crate::racing::tell_races;
+use crate::racing::{ToldRaces, more_lines, tell_races};
 use crate::sampling::sampled;
 use crate::texts::FoundTexts;
 use arguments::{RacesRequest, SearchOptions};
@@ -27,6 +27,7 @@ use frontend::read_design;
 use lawful::lawful_orders;
 use model::end::{End, Limits};
 use model::entry::Entry;
+use naming::RaceNames;
 use progress::Progress;
 use std::alloc::{AllocError, Global};
 use std::io::Write;
@@ -74,7 +75,8 @@ fn search_design<F: Files, O: Write>(
         (O.contents out.old) (O.contents out.new) (F.made files.old) (F.made files.new)) }
 {
     try_first(alloc, request.journals, files)?;
-    let known = tell_races(alloc, source, design, request, out, &files.progress())?;
+    let early = tell_races(alloc, source, design, request, out, &files.progress())?;
+    let ToldRaces { known, races } = early;
     let texts = find_texts(
         alloc,
         design,
@@ -82,7 +84,17 @@ fn search_design<F: Files, O: Write>(
         known,
         &files.progress(),
     )?;
-    let last = last_lines(alloc, &texts, request.search_options, request.journals)?;
+    let names = RaceNames {
+        source,
+        design,
+        race_bounds: races.bounds,
+        prefix: request.journals,
+        shown: texts.shown.as_slice(),
+    };
+    let search_options = request.search_options;
+    let more = more_lines(alloc, &names, search_options, races, &files.progress())?;
+    let said = last_lines(alloc, &texts, search_options, request.journals)?;
+    let last = joined(more, said.as_slice())?;
     tell_texts(alloc, texts, last.as_slice(), request, files, out)
 }
 
@@ -281,6 +293,15 @@ fn ends_differ(shown: &[Shown<Entry, End>]) -> bool
         Some((first, others)) => others.iter().any(|one| one.end != first.end),
         None => false,
     }
+}
+
+/// Lines, and others behind them.
+fn joined(lines: Vec<u8>, others: &[u8]) -> Result<Vec<u8>, AllocError>
+    ensures { IfOk result (λ all. all.items ≡ lines.items ++ others.now) }
+{
+    let mut all = lines;
+    all.extend_from_slice(others)?;
+    Ok(all)
 }
 
 /// What is said of the texts.

@@ -1,2 +1,3 @@
--- Lemmas of lists, and of races beside others.
+-- Lemmas of lists, of races beside others, and of those that part texts.
 pub mod Kept
+pub mod Parted

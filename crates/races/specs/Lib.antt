@@ -1,2 +1,3 @@
 pub mod RunEndings
 pub mod Races
+pub mod Causes

@@ -23,8 +23,8 @@ abbrev pub IsUnderWay : JournaledMachine → Type 0
 IsUnderWay run = HasTimeLimit run.limits × HasComeTo run.limits run.journal.items run.machine
 
 -- a run under way has room for an entry more, and one may be next in time
-abbrev pub MayGoOn : JournaledMachine → Type 0
-MayGoOn run = IsUnderWay run × (length run.journal.items < run.limits.max_entries) × GoesOn run.limits (state_at run.machine)
+abbrev pub MayTakeMore : JournaledMachine → Type 0
+MayTakeMore run = IsUnderWay run × (length run.journal.items < run.limits.max_entries) × GoesOn run.limits (state_at run.machine)
 
 -- a run went on, or stayed: it is under way, as one of the same design and within the same limits
 abbrev pub HasGoneOn : JournaledMachine → JournaledMachine → Type 0

@@ -15,26 +15,34 @@
 //! 5. Where the second run is apart from the first, a machine that is led to the two entries in the first
 //!    run confirms what each does there, and one led to them in the second that they come the other way round (the crate `accesses`).
 //!    Then it is a race (`trials`).
+//! 6. Where runs were found that show different texts, the race that parts two of them is looked for from where their journals part (`causes`): the one is followed
+//!    behind first entries of the other (`hybrid`, and `track` for the way), until an entry is found that makes the difference, and its neighbour
+//!    (`parting`).
 //!
-//! What the layer above uses: the contract of `find_races`. The first run and that of each race are lawful and in time, their
+//! What the layer above uses: the contracts of `find_races` and of `Causes::explain`. Of the former: the first run and that of each race are lawful and in time, their
 //! lines and ends are told, and the two are apart; the two processes do in the first run what the race says, and come the other way
 //! round in the second. No race is told twice, and what cut the list is told.
 #![tactic(auto)]
 
+mod causes;
 mod conflicts;
 mod counts;
 mod depend;
 mod exchange;
 mod follow;
+mod hybrid;
 mod journaled_machine;
+mod parting;
 mod race_search;
 mod recorder;
 mod search;
 mod segment;
 mod step_set;
 mod told;
+mod track;
 mod transitions;
 mod trials;
 
+pub use causes::{CauseSearch, Causes};
 pub use search::find_races;
-pub use told::{Bound, Found, Race, RaceBounds};
+pub use told::{Bound, Cause, Found, Race, RaceBounds};

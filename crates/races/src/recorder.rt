@@ -4,7 +4,7 @@ ghost use Rattle.model.specs.declared.entry.Entry.TheVariants.{Turn};
 ghost use Rattle.model.specs.Runs.{refusal};
 ghost use Rattle.regions.specs.Machine.{state_at};
 ghost use Rattle.runs.specs.RunRecords.{IsRun};
-ghost use Rattle.races.specs.RunEndings.{IsUnderWay, IsGivenLog, MayGoOn, HasGoneOn, EndsAt};
+ghost use Rattle.races.specs.RunEndings.{IsUnderWay, IsGivenLog, MayTakeMore, HasGoneOn, EndsAt};
 
 use crate::conflicts::Conflicts;
 use crate::journaled_machine::JournaledMachine;
@@ -256,6 +256,19 @@ impl RunRecorder {
         }
     }
 
+    /// Forgets the conflicts that were found and the last entries: from here on only the next ones are compared, which begin at this place
+    /// of the journal and this time.
+    pub(crate) fn begin_anew(
+        &mut self,
+        alloc: Global,
+        bounds: RaceBounds,
+        place: usize,
+        time: u64,
+    ) {
+        self.conflicts = Conflicts::new(alloc, bounds);
+        self.segment.begin(place, time);
+    }
+
     /// Finds the conflicts of the last entries.
     pub(crate) fn finish(&mut self) {
         self.segment.find_conflicts(&mut self.conflicts);
@@ -280,7 +293,7 @@ fn recorder_step(
     log: Option<&TurnLog>,
     noted: Option<Noted>,
 ) -> Option<End>
-    requires goes_on { MayGoOn run.old }
+    requires goes_on { MayTakeMore run.old }
     requires permitted { refusal (state_at run.old.machine) entry ≡ None }
     requires given { IsGivenLog run.old entry (option_copied log) }
     ensures went { HasGoneOn run.old run.new }
@@ -300,7 +313,7 @@ fn recorder_turn(
     log: &mut TurnLog,
     number: u64,
 ) -> Option<End>
-    requires goes_on { MayGoOn run.old }
+    requires goes_on { MayTakeMore run.old }
     requires permitted { refusal (state_at run.old.machine) (Turn number) ≡ None }
     ensures went { HasGoneOn run.old run.new }
     ensures ends { IfSome result (EndsAt run.new) }
@@ -312,6 +325,26 @@ fn recorder_turn(
     };
     let noted = recorder.note_turn(&run.machine, number, process, log);
     recorder_step(run, recorder, turn, Some(&*log), Some(noted))
+}
+
+// Notes an entry that the rules permit, and takes it, or else answers how the run ends here.
+fn record_given(
+    run: &mut JournaledMachine<'_>,
+    recorder: &mut RunRecorder,
+    log: &mut TurnLog,
+    entry: Entry,
+) -> Option<End>
+    requires goes_on { MayTakeMore run.old }
+    requires permitted { refusal (state_at run.old.machine) entry ≡ None }
+    ensures went { HasGoneOn run.old run.new }
+    ensures ends { IfSome result (EndsAt run.new) }
+{
+    let noted = match entry {
+        Entry::Turn(number) => return recorder_turn(run, recorder, log, number),
+        Entry::Update(number) => recorder.note_update(&run.machine, number),
+        change => Some(recorder.note_change(change)),
+    };
+    recorder_step(run, recorder, entry, None, noted)
 }
 
 // Takes the first entry that may be next, or else answers how the run ends here.
@@ -327,16 +360,71 @@ fn record_entry(
     if let Some(end) = run.end() {
         return Some(end);
     }
-    let entry = match first_entry(&run.machine) {
-        Some(entry) => entry,
-        None => return Some(End::Stopped(Why::Memory)),
-    };
-    let noted = match entry {
-        Entry::Turn(number) => return recorder_turn(run, recorder, log, number),
-        Entry::Update(number) => recorder.note_update(&run.machine, number),
-        change => Some(recorder.note_change(change)),
-    };
-    recorder_step(run, recorder, entry, None, noted)
+    match first_entry(&run.machine) {
+        Some(entry) => record_given(run, recorder, log, entry),
+        None => Some(End::Stopped(Why::Memory)),
+    }
+}
+
+// Takes an entry of a journal, if it may be next. The answer is whether it was taken.
+fn record_next(
+    run: &mut JournaledMachine<'_>,
+    recorder: &mut RunRecorder,
+    log: &mut TurnLog,
+    entry: &Entry,
+) -> bool
+    requires { IsUnderWay run.old }
+    ensures { HasGoneOn run.old run.new }
+{
+    if run.end().is_some() {
+        return false;
+    }
+    if !run.machine.state().legal(entry) {
+        return false;
+    }
+    record_given(run, recorder, log, *entry).is_none()
+}
+
+// Takes entries of a journal, as far as they may be taken. The answer is whether all were taken.
+fn record_all(
+    run: &mut JournaledMachine<'_>,
+    recorder: &mut RunRecorder,
+    log: &mut TurnLog,
+    entries: &[Entry],
+) -> bool
+    requires { IsUnderWay run.old }
+    ensures { HasGoneOn run.old run.new }
+{
+    for entry in entries {
+        if !record_next(run, recorder, log, entry) {
+            return false;
+        }
+    }
+    true
+}
+
+/// Takes the entries of a journal up to the one at a place and the one behind that, and notes what these two do alone.
+pub(crate) fn record_two(
+    alloc: Global,
+    run: &mut JournaledMachine<'_>,
+    recorder: &mut RunRecorder,
+    bounds: RaceBounds,
+    journal: &[Entry],
+    place: usize,
+)
+    requires { IsUnderWay run.old }
+    ensures { HasGoneOn run.old run.new }
+{
+    let mut log = TurnLog::new(alloc);
+    let (before, rest) = journal.split_at(place.min(journal.len()));
+    let (two, _) = rest.split_at(rest.len().min(2));
+    if !record_all(run, recorder, &mut log, before) {
+        return;
+    }
+    recorder.begin_anew(alloc, bounds, place, run.machine.time());
+    let _ = record_all(run, recorder, &mut log, two);
+    recorder.finish();
+    recorder.segment.find_updating(&mut recorder.conflicts);
 }
 
 /// Makes the first run, which takes the first entry that may be next at each choice, from its start.

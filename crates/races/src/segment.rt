@@ -420,6 +420,17 @@ impl Segment {
         }
     }
 
+    /// Keeps the conflict of the first two entries, where both make nonblocking assignments: their updates come in the order of these.
+    pub(crate) fn find_updating(&self, conflicts: &mut Conflicts) {
+        match (self.step_at(0), self.step_at(1)) {
+            (Some(one), Some(other)) if one.assigns && other.assigns => {
+                let (here, there) = ((0, Does::Schedules), (1, Does::Schedules));
+                self.add(conflicts, Site::Updating, here, there);
+            }
+            _ => {}
+        }
+    }
+
     /// Keeps the conflict of the last entry, which finishes the run, with an event of a process that it leaves behind.
     pub(crate) fn add_held_back(
         &self,
@@ -461,9 +472,10 @@ impl Segment {
 // The number of a site, by which its accesses are counted.
 fn number_of(site: Site) -> usize {
     match site {
-        Site::Register(register) => (register as usize).saturating_add(3),
+        Site::Register(register) => (register as usize).saturating_add(4),
         Site::Printing => 0,
         Site::Strobing => 1,
         Site::Finishing => 2,
+        Site::Updating => 3,
     }
 }

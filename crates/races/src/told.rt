@@ -14,6 +14,13 @@ pub struct Race {
     pub exchanged: RunRecord,
 }
 
+/// A race that parts two texts: the run that has the one, in which it shows, and the race, whose second run is apart from it.
+#[derive(Drop)]
+pub struct Cause {
+    pub original: RunRecord,
+    pub race: Race,
+}
+
 /// How far a search for races goes: the most second runs that it makes, the most races that it tells, and the most entries of
 /// all second runs together, each counted with those that it repeats of the first run.
 #[derive(Clone, Copy)]

@@ -34,6 +34,18 @@ fn is_of(machine: &Machine<'_>, entry: Entry, wanted: RunTransition) -> bool {
     }
 }
 
+/// The transition of an entry that may be next.
+pub(crate) fn transition_of(machine: &Machine<'_>, entry: Entry) -> RunTransition {
+    match entry {
+        Entry::Turn(number) => match machine.state().evaluation(number) {
+            Some((process, _)) => RunTransition::Turn(process),
+            None => RunTransition::Change(entry),
+        },
+        Entry::Update(_) => RunTransition::Update,
+        change => RunTransition::Change(change),
+    }
+}
+
 // The entry at a place of those that may be next, if it is of a transition.
 fn entry_at(
     machine: &Machine<'_>,
@@ -95,7 +107,7 @@ pub(crate) fn first_entry(machine: &Machine<'_>) -> Option<Entry>
 
 // Whether an entry comes before a change of the regions that isn't the same: of two advances that to the lesser time, and else the
 // entry whose region is emptied first.
-fn is_earlier(entry: Entry, change: Entry) -> bool {
+pub(crate) fn is_earlier(entry: Entry, change: Entry) -> bool {
     match (entry, change) {
         (Entry::Advance(time), Entry::Advance(other)) => time < other,
         _ => region_of(&entry) < region_of(&change),

@@ -1,5 +1,5 @@
 //! The tries of conflicts, and the races that they show.
-ghost use Rattle.std.specs.Prelude.{◌≡◌, ◌<◌, [], false, IfOk, IfNone, IfSome, IsTrue, Some, vec_len};
+ghost use Rattle.std.specs.Prelude.{◌≡◌, ◌<◌, [], false, length, IfOk, IfNone, IfSome, IsTrue, Some, vec_len};
 ghost use Rattle.std.specs.List.{All, AllPairs};
 ghost use Rattle.accesses.specs.Roles.{HasBothOrders};
 ghost use Rattle.design.specs.Compiled.{design_of};
@@ -32,8 +32,8 @@ fn is_same_site(one: Site, other: Site) -> bool
     one == other
 }
 
-// Whether a race is for the site of a pair, and of the same two processes.
-fn is_of(race: &Race, pair: Pair) -> bool
+/// Whether a race is for the site of a pair, and of the same two processes.
+pub(crate) fn is_of(race: &Race, pair: Pair) -> bool
     ensures { result ≡ false → race.now.site ≡ pair.site → AreOfSame race.now.first race.now.second pair.first pair.second → ⊥ }
 {
     let (one, other) = (race.first.process, race.second.process);
@@ -42,9 +42,10 @@ fn is_of(race: &Race, pair: Pair) -> bool
     is_same && is_same_site(race.site, pair.site)
 }
 
-// Whether a race of a pair's site and processes is told.
-fn is_told(races: &[Race], pair: Pair) -> bool
-    ensures { result ≡ false → IsNewBeside races.now pair }
+/// Whether a race of a pair's site and processes is told.
+pub(crate) fn is_told(races: &[Race], pair: Pair) -> bool
+    ensures new { result ≡ false → IsNewBeside races.now pair }
+    ensures some { IsTrue result → 0 < length races.now }
 {
     for race in races {
         if is_of(race, pair) {
@@ -52,6 +53,36 @@ fn is_told(races: &[Race], pair: Pair) -> bool
         }
     }
     false
+}
+
+/// Whether a site is an order of lines or of updates.
+pub(crate) fn is_order(site: Site) -> bool {
+    match site {
+        Site::Printing | Site::Strobing | Site::Updating => true,
+        Site::Register(_) | Site::Finishing => false,
+    }
+}
+
+// Whether a process is one of a race's two.
+fn has_process(race: &Race, process: u32) -> bool {
+    race.first.process == process || race.second.process == process
+}
+
+// Whether a process is one of those of the races for a site that are told at a time.
+fn is_named(races: &[Race], site: Site, time: u64, process: u32) -> bool {
+    races.iter().any(|race| race.time == time
+        && is_same_site(race.site, site)
+        && has_process(race, process))
+}
+
+// Whether a pair is for an order of lines, and both of its processes are named at one time for it.
+fn is_covered(races: &[Race], pair: Pair) -> bool {
+    let (first, second) = (pair.first.process, pair.second.process);
+    is_order(pair.site)
+        && races.iter().any(|race| {
+            is_named(races, pair.site, race.time, first)
+                && is_named(races, pair.site, race.time, second)
+        })
 }
 
 // How many entries a second run has between the one that it takes in a place and the first run's entry of that place.
@@ -69,8 +100,8 @@ fn count_between(one: &RunRecord, other: &RunRecord, place: usize) -> usize {
     0
 }
 
-// Whether the two runs of a conflict have its entries in both orders.
-fn has_both_orders(
+/// Whether the two runs of a conflict have its entries in both orders.
+pub(crate) fn has_both_orders(
     task: RaceSearch<'_>,
     conflict: &Conflict,
     exchanged: &RunRecord,
@@ -307,12 +338,15 @@ impl Trials {
         }
     }
 
-    // Tries a conflict within the bounds, unless a race of its group is told.
+    // Tries a conflict within the bounds, unless a race of its group is told, or its processes are among those whose lines come in another order at one time.
     fn try_conflict<P: Progress>(&mut self, task: RaceSearch<'_>, conflict: &Conflict, progress: &P)
         requires { AreToldRaces task.design.now task.limits task.original.now task.bounds self.old }
         ensures { AreToldRaces task.entry.design.now task.entry.limits task.entry.original.now task.entry.bounds self.new }
     {
         if is_told(&self.races, conflict.pair) {
+            return;
+        }
+        if is_covered(&self.races, conflict.pair) {
             return;
         }
         match self.try_pair(task, conflict, progress) {
@@ -322,18 +356,43 @@ impl Trials {
         }
     }
 
-    // Tries the conflicts of a round.
-    fn try_round<P: Progress>(&mut self, task: RaceSearch<'_>, round: &[Conflict], progress: &P)
+    // Tries the conflicts of a round that are for an order of lines, or those that aren't, as it is asked.
+    fn try_round<P: Progress>(
+        &mut self,
+        task: RaceSearch<'_>,
+        round: &[Conflict],
+        order: bool,
+        progress: &P,
+    )
         requires { AreToldRaces task.design.now task.limits task.original.now task.bounds self.old }
         ensures { AreToldRaces task.entry.design.now task.entry.limits task.entry.original.now task.entry.bounds self.new }
     {
         for conflict in round {
-            self.try_conflict(task, conflict, progress);
+            if is_order(conflict.pair.site) == order {
+                self.try_conflict(task, conflict, progress);
+            }
+        }
+    }
+
+    // Tries such conflicts, round by round.
+    fn try_rounds<P: Progress>(
+        &mut self,
+        task: RaceSearch<'_>,
+        conflicts: &Conflicts,
+        order: bool,
+        progress: &P,
+    )
+        requires { AreToldRaces task.design.now task.limits task.original.now task.bounds self.old }
+        ensures { AreToldRaces task.entry.design.now task.entry.limits task.entry.original.now task.entry.bounds self.new }
+    {
+        for round in conflicts.rounds.iter() {
+            self.try_round(task, round.as_slice(), order, progress);
         }
     }
 }
 
-/// Tries the conflicts of a first run, round by round.
+/// Tries the conflicts of a first run, round by round: first those for registers and the end of the run, then those for an order of lines, so that
+/// these don't take the place of others.
 pub(crate) fn try_all<P: Progress>(
     task: RaceSearch<'_>,
     conflicts: &Conflicts,
@@ -342,8 +401,7 @@ pub(crate) fn try_all<P: Progress>(
     ensures { AreToldRaces task.entry.design.now task.entry.limits task.entry.original.now task.entry.bounds result }
 {
     let mut trials = Trials::new(task, conflicts);
-    for round in conflicts.rounds.iter() {
-        trials.try_round(task, round.as_slice(), progress);
-    }
+    trials.try_rounds(task, conflicts, false, progress);
+    trials.try_rounds(task, conflicts, true, progress);
     trials
 }

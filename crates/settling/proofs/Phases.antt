@@ -12,7 +12,7 @@ use Rattle.phases.specs.Phase.{Block, IsBlock, IsTurnPending, IsBlockWaiting, Ha
 use Rattle.combinational.specs.declared.block.Logic.{Logic}
 use Rattle.combinational.specs.declared.network.Network.{Network}
 use Rattle.combinational.specs.Found.{IsNetworkOf, HasLogic, AreRanked, block_in, rank_in}
-use Rattle.settling.specs.Settling.{block_or, block_at, IsMember, AreMembers, IsPendingOrSettled, ArePendingOrSettled, IsPhaseOf, MayBeHeld, HaveOutputs}
+use Rattle.settling.specs.Settling.{block_or, block_at, IsMember, AreMembers, IsPendingOrSettled, IsPhaseOf, MayBeHeld, HaveOutputs}
 
 -- the block of a member is that of its logic
 pub member_block : (code : Compiled) (network : Network) (p : ℕ) (logic : Logic) → slice_get network.logics.items p ≡ Some (Some logic) → block_at code network p ≡ block_in code logic
@@ -112,13 +112,13 @@ outputs_unawaited : (code : Compiled) (s : State) (network : Network) (members o
 outputs_unawaited code s network members outputs told q r none (p, there, out) =
     told.outputs_sleep q r none (is_listed code s network members outputs told p r there out)
 
-pub may_be_held : (code : Compiled) (s : State) (network : Network) (members outputs : List ℕ) → Held code s network members outputs → ArePendingOrSettled code s network members → MayBeHeld code s network members
-may_be_held code s network members outputs told settled =
+pub may_be_held : (code : Compiled) (s : State) (network : Network) (members outputs : List ℕ) → Held code s network members outputs → MayBeHeld code s network members
+may_be_held code s network members outputs told =
     record {
       goes_on = told.goes_on;
       exist = λ p there. (told.each p there).exists;
       blocks = is_block code s network members outputs told;
-      stands = λ p there. settled_so code s network p (settled p there);
+      stands = λ p there. stands_so code s network p (told.each p there);
       single = λ p q r there there' differ out. is_single code s network p q r told.found differ (told.each p there) (told.each q there') out;
       updates = updates_apart code s network members outputs told;
       order = λ p q r there there' out in_it. order_if code s network members outputs told p q r (p == q) refl there there' out in_it;

@@ -14,7 +14,7 @@ use Rattle.combinational.specs.declared.network.Network.{Network}
 use Rattle.regions.specs.declared.queue.Evaluation.{Evaluation}
 use Rattle.regions.specs.Queue.{evaluation_event}
 use Rattle.regions.specs.Machine.{MachineView, Stands, state_at}
-use Rattle.settling.specs.declared.between.Begin.{Begin}
+use Rattle.settling.specs.declared.begin.Begin.{Begin}
 use Rattle.settling.specs.Settling.{block_at, IsPendingOrSettled}
 use Rattle.settling.specs.Settled.{HasSettledSince}
 use Rattle.settling.proofs.Phases.{member_block, settled_so, changed_so}
@@ -40,7 +40,7 @@ processes_more es at ps more e within before is longer =
 -- it was pending
 pub pending_since : (begin : Begin) (end : MachineView) (network : Network) (p : ℕ) → contains begin.pending.items p ≡ true → HasSettledSince begin end network p
 pending_since begin end network p there start members ends member =
-    inl (inl (pending (ends.phase.stands p member)))
+    inl (inl (pending (ends.stands p member)))
   where
     pending : IsTurnPending (state_at start) p (block_at start.code network p) ⊎ IsBlockWaiting (state_at start) p (block_at start.code network p) → IsTurnPending (state_at start) p (block_at start.code network p)
     pending (inl h) = h
@@ -57,7 +57,7 @@ pub kept_since : (begin : Begin) (end : MachineView) (network : Network) (p : �
     → ((r : ℕ) → contains logic.inputs.items r ≡ true → value_of begin.values r ≡ value_of store r) → ((r : ℕ) → contains logic.outputs.items r ≡ true → value_of begin.values r ≡ value_of store r)
     → Stands end.code end.core end.values → IsPendingOrSettled end.code (state_at end) network p → HasSettledSince begin end network p
 kept_since begin end network p logic store found is inputs outputs stands settled start members ends member =
-    inl (settled_then (ends.phase.stands p member))
+    inl (settled_then (ends.stands p member))
   where
     same : (r : ℕ) → value_of begin.values r ≡ value_of store r → value_of end.values r ≡ value_of start.values r
     same r kept =
@@ -85,7 +85,7 @@ kept_since begin end network p logic store found is inputs outputs stands settle
         inr (
           none,
           continuation,
-          still_consistent (design_of start.code) (state_at end) (state_at start) p (block_at start.code network p) (ends.phase.blocks p member) (sym ends.time) count
+          still_consistent (design_of start.code) (state_at end) (state_at start) p (block_at start.code network p) (ends.blocks p member) (sym ends.time) count
               (λ r there. same r (inputs r (ap (λ (b : Block). contains b.inputs r) (sym (member_block start.code network p logic found)) ∙ there)))
               (λ r there. same r (outputs r (ap (λ (b : Block). contains b.outputs r) (sym (member_block start.code network p logic found)) ∙ there))) consistent,
         )

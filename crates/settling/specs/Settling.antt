@@ -51,15 +51,15 @@ abbrev pub IsPhaseOf : Compiled → State → Network → List ℕ → Type 0
 IsPhaseOf code s network members = IsPhase (design_of code) s members (block_at code network) (rank_in network.ranks.items)
 
 -- In a state these processes of a network may be held while others go on: the run isn't finished, and each of them is combinational, and
--- pending or settled. No register is an output of two of them, nor an output that is updated. They come in rank before those that read
--- their outputs. No other process waits for an output.
+-- pending or waits. No register is an output of two of them, nor an output that is updated. They come in rank before those that read their
+-- outputs. No other process waits for an output.
 pub record MayBeHeld (code : Compiled) (s : State) (network : Network) (members : List ℕ) : Type 0 where
   pub goes_on : s.finished ≡ false
   pub exist : (p : ℕ) → contains members p ≡ true → p < length s.processes
   pub blocks : (p : ℕ) → contains members p ≡ true → IsBlock (design_of code) p (block_at code network p)
   pub stands :
       (p : ℕ) → contains members p ≡ true
-      → IsTurnPending s p (block_at code network p) ⊎ HasSettled (design_of code) s p (block_at code network p)
+      → IsTurnPending s p (block_at code network p) ⊎ IsBlockWaiting s p (block_at code network p)
   pub single :
       (p q r : ℕ) → contains members p ≡ true → contains members q ≡ true → p ≢ q → contains (block_at code network p).outputs r ≡ true
       → contains (block_at code network q).outputs r ≡ false
@@ -71,6 +71,10 @@ pub record MayBeHeld (code : Compiled) (s : State) (network : Network) (members 
   pub others :
       (q r : ℕ) → contains members q ≡ false → IsOutput members (block_at code network) r
       → waits_for_register (continuation_of s q) r ≡ false
+
+-- each of these processes is one of those
+abbrev pub AreSomeOf : List ℕ → List ℕ → Type 0
+AreSomeOf members others = (p : ℕ) → contains members p ≡ true → contains others p ≡ true
 
 -- each of these registers has a list as an output of one of these processes
 abbrev pub HaveOutputs : Network → List ℕ → List ℕ → Type 0

@@ -1,54 +1,19 @@
-//! Whether the members of a phase settle between its begin and its end.
-ghost use Rattle.std.specs.Prelude.{◌≡◌, ◌≢◌, ℕ, true, map, IfOk};
+//! Whether combinational processes settle from where a machine stood to where nothing is active.
+ghost use Rattle.std.specs.Prelude.{◌≡◌, ◌≢◌, ℕ, true, IfOk};
 ghost use Rattle.model.specs.Expressions.{value_of};
 ghost use Rattle.model.specs.Turns.{contains};
 ghost use Rattle.combinational.specs.Found.{IsNetworkOf};
-ghost use Rattle.settling.specs.Settled.{IsBeginOf, HasSettledSince, HaveSettledSince};
+ghost use Rattle.settling.specs.Settled.{HasSettledSince, HaveSettledSince};
 
+use crate::begin::Begin;
 use crate::consistent::has_value;
 use crate::member::{is_pending_or_settled, logic_at};
 use combinational::{Logic, Network, is_among};
 use design::RegId;
 use logic4::bits::Bits;
-use regions::{Evaluation, Machine, PlainStore};
+use regions::{Machine, PlainStore};
 use std::alloc::{AllocError, Global};
-use std::collections::VecDeque;
 use turn::TurnLog;
-
-/// What is kept of the begin of a phase: the values of the registers, and the processes that were evaluated.
-#[derive(Drop)]
-pub struct Begin {
-    values: PlainStore,
-    pending: Vec<u32>,
-}
-
-/// The processes of evaluations, in their order.
-pub fn evaluated_processes(
-    alloc: Global,
-    evaluations: &VecDeque<Evaluation>,
-) -> Result<Vec<u32>, AllocError>
-    ensures { IfOk result (λ processes. processes.items ≡ map (λ e. e.process) evaluations.now.items) }
-{
-    let mut processes = Vec::new(alloc);
-    for at in 0..evaluations.len() {
-        let evaluation = evaluations[at];
-        processes.push(evaluation.process)?;
-    }
-    Ok(processes)
-}
-
-impl Begin {
-    /// Where a machine stands.
-    pub fn of(alloc: Global, machine: &Machine<'_>) -> Result<Begin, AllocError>
-        ensures { IfOk result (λ begin. IsBeginOf machine.now begin) }
-    {
-        machine.stands();
-        let (_, evaluations) = machine.state().active();
-        let pending = evaluated_processes(alloc, evaluations)?;
-        let values = machine.store().copy(alloc)?;
-        Ok(Begin { values, pending })
-    }
-}
 
 // Whether a register has another value than this.
 fn has_other_value(store: &PlainStore, register: RegId, value: &Bits) -> bool
@@ -144,8 +109,9 @@ fn settles(
     is_pending_or_settled(log, machine, network, process)
 }
 
-/// Whether each of these processes, the members of a phase that began so, settles from there to where a machine stands, at the end of the
-/// phase: it was pending at the begin, or had settled, or one of its inputs has another value. Fails where memory is refused.
+/// Whether each of these processes, the members of a phase that began so or processes that were held from there on, settles from there to
+/// where a machine stands and nothing is active: it was pending at the begin, or had settled, or one of its inputs has another value. Fails
+/// where memory is refused.
 pub fn settle_since(
     alloc: Global,
     begin: &Begin,
@@ -163,4 +129,25 @@ pub fn settle_since(
         }
     }
     Ok(true)
+}
+
+/// Those of these processes that settle so.
+pub fn members_settled_since(
+    alloc: Global,
+    machine: &Machine<'_>,
+    network: &Network,
+    begin: &Begin,
+    members: &[u32],
+) -> Result<Vec<u32>, AllocError>
+    requires found { IsNetworkOf machine.now.code network.now }
+    ensures { IfOk result (λ settled. (p : ℕ) → contains settled.items p ≡ true → HasSettledSince begin.now machine.now network.now p) }
+{
+    let mut log = TurnLog::new(alloc);
+    let mut settled = Vec::new(alloc);
+    for process in members {
+        if settles(&mut log, begin, machine, network, *process)? {
+            settled.push(*process)?;
+        }
+    }
+    Ok(settled)
 }

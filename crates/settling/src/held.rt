@@ -1,13 +1,12 @@
-//! Which combinational processes may be held while others go on.
-ghost use Rattle.std.specs.Prelude.{◌≡◌, ℕ, true, map, IfOk, IfSome};
-ghost use Rattle.model.specs.Turns.{contains};
+//! Which combinational processes may be held while others go on, and which of them have settled.
+ghost use Rattle.std.specs.Prelude.{◌≡◌, true, map, IfOk, IfSome};
 ghost use Rattle.orders.specs.Alike.{updates_in};
 ghost use Rattle.combinational.specs.Found.{IsNetworkOf};
 ghost use Rattle.regions.specs.Machine.{state_at};
-ghost use Rattle.settling.specs.Settling.{IsPendingOrSettled, ArePendingOrSettled, HaveOutputs, MayBeHeld};
+ghost use Rattle.settling.specs.Settling.{IsMember, AreMembers, ArePendingOrSettled, AreSomeOf, HaveOutputs, MayBeHeld};
 
 use crate::awaited::others_sleep;
-use crate::member::is_pending_or_settled;
+use crate::member::{is_member, is_pending_or_settled};
 use crate::phase::{is_over, outputs_at, outputs_of, updated};
 use combinational::{Network, share};
 use design::RegId;
@@ -15,40 +14,53 @@ use regions::Machine;
 use std::alloc::{AllocError, Global};
 use turn::TurnLog;
 
-// Whether a process is combinational, and pending or settled, and none of its outputs is among these registers. Where its turn has to be
-// evaluated, that is done into the log.
-fn is_candidate(
-    log: &mut TurnLog,
-    machine: &Machine<'_>,
-    network: &Network,
-    registers: &[RegId],
-    process: u32,
-) -> Result<bool, AllocError>
-    requires found { IsNetworkOf machine.now.code network.now }
-    ensures { IfOk result (λ candidate. candidate ≡ true → IsPendingOrSettled machine.now.code (state_at machine.now) network.now process) }
-{
-    if share(outputs_at(network, process), registers) {
-        return Ok(false);
-    }
-    is_pending_or_settled(log, machine, network, process)
-}
-
-// The processes that are combinational, and pending or settled, and none of whose outputs is among these registers. Turns that have to be
-// evaluated for that are so into the log.
-fn candidates(
+/// Those of these processes that are combinational, and pending or settled. The turn of each that waits is evaluated for that.
+pub fn settled_of(
     alloc: Global,
-    log: &mut TurnLog,
     machine: &Machine<'_>,
     network: &Network,
-    registers: &[RegId],
+    among: &[u32],
 ) -> Result<Vec<u32>, AllocError>
     requires found { IsNetworkOf machine.now.code network.now }
-    ensures { IfOk result (λ members. ArePendingOrSettled machine.now.code (state_at machine.now) network.now members.items) }
+    ensures { IfOk result (λ settled. ArePendingOrSettled machine.now.code (state_at machine.now) network.now settled.items) }
+{
+    let mut log = TurnLog::new(alloc);
+    let mut settled = Vec::new(alloc);
+    for process in among {
+        if is_pending_or_settled(&mut log, machine, network, *process)? {
+            settled.push(*process)?;
+        }
+    }
+    Ok(settled)
+}
+
+// Whether a process is combinational, and pending or waits, and none of its outputs is among these registers.
+fn is_candidate(machine: &Machine<'_>, network: &Network, registers: &[RegId], process: u32) -> bool
+    requires found { IsNetworkOf machine.now.code network.now }
+    ensures { result ≡ true → IsMember machine.now.code (state_at machine.now) network.now process }
+{
+    if share(outputs_at(network, process), registers) {
+        return false;
+    }
+    is_member(machine, network, process)
+}
+
+// Those of these processes that are.
+fn candidates(
+    alloc: Global,
+    machine: &Machine<'_>,
+    network: &Network,
+    registers: &[RegId],
+    among: &[u32],
+) -> Result<Vec<u32>, AllocError>
+    requires found { IsNetworkOf machine.now.code network.now }
+    ensures each { IfOk result (λ members. AreMembers machine.now.code (state_at machine.now) network.now members.items) }
+    ensures subset { IfOk result (λ members. AreSomeOf members.items among.now) }
 {
     let mut members = Vec::new(alloc);
-    for process in 0..machine.design().processes() {
-        if is_candidate(log, machine, network, registers, process)? {
-            members.push(process)?;
+    for process in among {
+        if is_candidate(machine, network, registers, *process) {
+            members.push(*process)?;
         }
     }
     Ok(members)
@@ -61,8 +73,7 @@ fn unawaited(
     network: &Network,
     members: &[u32],
 ) -> Result<Vec<u32>, AllocError>
-    requires each { ArePendingOrSettled machine.now.code (state_at machine.now) network.now members.now }
-    ensures { IfOk result (λ fewer. ArePendingOrSettled machine.now.code (state_at machine.now) network.now fewer.items) }
+    ensures { IfOk result (λ fewer. AreSomeOf fewer.items members.now) }
 {
     let controls = machine.design().event_controls();
     let processes = machine.state().processes();
@@ -82,8 +93,7 @@ fn kept(
     network: &Network,
     members: Vec<u32>,
 ) -> Result<Vec<u32>, AllocError>
-    requires each { ArePendingOrSettled machine.now.code (state_at machine.now) network.now members.items }
-    ensures { IfOk result (λ fewer. ArePendingOrSettled machine.now.code (state_at machine.now) network.now fewer.items) }
+    ensures { IfOk result (λ fewer. AreSomeOf fewer.items members.items) }
 {
     let mut members = members;
     for _ in 0..members.len() {
@@ -105,7 +115,7 @@ fn may_be_held(
     registers: &[RegId],
 ) -> bool
     requires found { IsNetworkOf machine.now.code network.now }
-    requires each { ArePendingOrSettled machine.now.code (state_at machine.now) network.now members.now }
+    requires each { AreMembers machine.now.code (state_at machine.now) network.now members.now }
     requires outputs { HaveOutputs network.now members.now outputs.now }
     requires registers { registers.now ≡ map (λ u. u.0) (updates_in (state_at machine.now).active) }
     ensures { result ≡ true → MayBeHeld machine.now.code (state_at machine.now) network.now members.now }
@@ -122,20 +132,21 @@ fn may_be_held(
     others_sleep(controls, processes, members, outputs)
 }
 
-/// Combinational processes that may be held in the state of a machine while the others go on: as many as are found. None where that isn't
+/// Those of these processes that may be held in the state of a machine while the others go on: as many as are found. None where that isn't
 /// told.
 pub fn held_of(
     alloc: Global,
     machine: &Machine<'_>,
     network: &Network,
+    among: &[u32],
 ) -> Result<Option<Vec<u32>>, AllocError>
     requires found { IsNetworkOf machine.now.code network.now }
-    ensures { IfOk result (λ found. IfSome found (λ members. MayBeHeld machine.now.code (state_at machine.now) network.now members.items)) }
+    ensures may { IfOk result (λ found. IfSome found (λ members. MayBeHeld machine.now.code (state_at machine.now) network.now members.items)) }
+    ensures subset { IfOk result (λ found. IfSome found (λ members. AreSomeOf members.items among.now)) }
 {
     let (updates, _) = machine.state().active();
     let registers = updated(alloc, updates)?;
-    let mut log = TurnLog::new(alloc);
-    let members = candidates(alloc, &mut log, machine, network, &registers)?;
+    let members = candidates(alloc, machine, network, &registers, among)?;
     let members = kept(alloc, machine, network, members)?;
     let outputs = outputs_of(alloc, network, &members)?;
     if !may_be_held(machine, network, &members, &outputs, &registers) {

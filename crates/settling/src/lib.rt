@@ -1,17 +1,21 @@
 //! States from which combinational processes settle in one way: `phase_of` tells whether the state of a machine is a phase (`IsPhase`
 //! of `phases`), and of which processes, and `settle_since` whether these settle from its begin to its end. `held_of` tells which of
-//! them may be held in any state while others go on. `AnalyzedDesign` is a design with its combinational processes.
+//! them may be held in any state while others go on: those too that wait though their turns would change something, of which `settle_since`
+//! tells at the end. `settled_of` tells which of them would change nothing. `AnalyzedDesign` is a design with its combinational processes.
 #![tactic(auto)]
 
 mod analyzed_design;
 mod awaited;
+mod begin;
 mod between;
 mod consistent;
 mod held;
 mod member;
 mod phase;
+mod reached;
 
 pub use analyzed_design::AnalyzedDesign;
-pub use between::{Begin, evaluated_processes, settle_since};
-pub use held::held_of;
+pub use begin::{Begin, evaluated_processes};
+pub use between::{members_settled_since, settle_since};
+pub use held::{held_of, settled_of};
 pub use phase::{inputs_at, outputs_at, outputs_of, phase_of};

@@ -7,11 +7,12 @@ ghost use Rattle.regions.specs.Machine.{state_at};
 ghost use Rattle.regions.specs.Queue.{update_event};
 ghost use Rattle.settling.specs.Settling.{HaveOutputs, IsPhaseOf};
 
-use crate::awaited::{is_one, others_sleep};
+use crate::awaited::others_sleep;
 use crate::member::{are_inside, are_members, logic_at};
-use combinational::{Network, is_among, share};
-use design::{Control, RegId};
-use regions::{Continuation, Evaluation, Machine, Update};
+use crate::reached::reached;
+use combinational::{Network, share};
+use design::RegId;
+use regions::{Machine, Update};
 use std::alloc::{AllocError, Global};
 use std::collections::VecDeque;
 
@@ -60,80 +61,6 @@ pub fn outputs_of(
         registers.extend_from_slice(outputs_at(network, *member))?;
     }
     Ok(registers)
-}
-
-// Whether a process waits for one of these registers.
-fn waits_for(controls: &[Control], continuation: &Continuation, registers: &[RegId]) -> bool {
-    match continuation.waits {
-        Some(number) => match controls.get(number) {
-            Some(control) => control
-                .triggers()
-                .iter()
-                .any(|trigger| is_among(registers, trigger.1)),
-            None => false,
-        },
-        None => false,
-    }
-}
-
-// Adds the process at a place, unless it is there.
-fn add_once(members: &mut Vec<u32>, place: usize) -> Result<(), AllocError> {
-    if is_one(members.as_slice(), place) {
-        return Ok(());
-    }
-    if let Ok(process) = u32::try_from(place) {
-        members.push(process)?;
-    }
-    Ok(())
-}
-
-// Adds the processes that wait for one of these registers to others, each once.
-fn add_waiting(
-    members: &mut Vec<u32>,
-    controls: &[Control],
-    processes: &[Continuation],
-    registers: &[RegId],
-) -> Result<(), AllocError> {
-    for at in 0..processes.len() {
-        if waits_for(controls, &processes[at], registers) {
-            add_once(members, at)?;
-        }
-    }
-    Ok(())
-}
-
-// The processes that are evaluated, each once.
-fn evaluated(alloc: Global, evaluations: &VecDeque<Evaluation>) -> Result<Vec<u32>, AllocError> {
-    let mut members = Vec::new(alloc);
-    for at in 0..evaluations.len() {
-        let evaluation = evaluations[at];
-        add_once(&mut members, evaluation.process as usize)?;
-    }
-    Ok(members)
-}
-
-// The processes that may have a turn before all that is active has settled: those that are evaluated, those that wait for what is
-// updated, and those that wait for an output of these.
-fn reached(
-    alloc: Global,
-    controls: &[Control],
-    processes: &[Continuation],
-    network: &Network,
-    evaluations: &VecDeque<Evaluation>,
-    registers: &[RegId],
-) -> Result<Vec<u32>, AllocError> {
-    let mut members = evaluated(alloc, evaluations)?;
-    add_waiting(&mut members, controls, processes, registers)?;
-    for at in 0..processes.len() {
-        match members.get(at) {
-            Some(member) => {
-                let outputs = outputs_at(network, *member);
-                add_waiting(&mut members, controls, processes, outputs)?;
-            }
-            None => return Ok(members),
-        }
-    }
-    Ok(members)
 }
 
 /// Whether a turn met `$finish`.

@@ -1,8 +1,8 @@
 -- What was told in several calls.
-use Rattle.std.proofs.Common.{Bool, true, false, ◌≡◌, ◌⊎◌, ◌∙◌, inl, inr, refl, sym, ap, ℕ, List, [], ◌∷◌, ◌++◌, take, drop, get_or, length, zero, suc, ◌<◌, subst, arith, append_assoc, add-one, Option, Some, None}
+use Rattle.std.proofs.Common.{Bool, true, false, ◌≡◌, ◌∙◌, inl, inr, refl, sym, ap, ℕ, List, [], ◌∷◌, ◌++◌, take, drop, get_or, length, zero, suc, ◌<◌, subst, arith, append_assoc, add-one, Option, Some, None}
 use Rattle.std.specs.Io.KnownBytes.{Appends}
 use Rattle.std.proofs.lemmas.List.{append-nil, length_push, take-append-drop, take_all}
-use Rattle.journal.specs.Counted.{failed_calls, one_more_failure}
+use Rattle.journal.specs.Counted.{one_more_failure}
 use Rattle.journal.specs.Written.{AppendsBeginning, IsWrittenUpTo}
 use Rattle.journal.specs.declared.counted.Counted.{Counted}
 use Rattle.std.proofs.lemmas.Iterator.{YieldsList}

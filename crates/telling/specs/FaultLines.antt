@@ -9,6 +9,8 @@ use Rattle.journal.specs.declared.counted.Counted.{Counted}
 use Rattle.telling.specs.declared.line.SubjectLine.{SubjectLine}
 use Rattle.telling.specs.declared.line.Subject.{Subject}
 use Rattle.telling.specs.declared.line.Subject.TheVariants.{Nothing, Number, Name, Path}
+use Rattle.telling.specs.declared.telling.Showing.{Showing}
+use Rattle.telling.specs.declared.telling.Showing.TheVariants.{Line, Lines}
 
 -- a line of the program's own: its name, a text in three parts, and a newline
 abbrev pub program_line : List ℕ → List ℕ → List ℕ → List ℕ
@@ -30,6 +32,11 @@ shown_path path = spelled shown_letter (chars path)
 -- a character of a text of several lines as it is shown: a newline as it is
 abbrev pub shown_in_lines : ℕ → List ℕ
 shown_in_lines c = if c == 10 then 10 ∷ [] else shown_letter c
+
+-- a character of a text as it is shown, which is of one line or of several
+abbrev pub shown_by : Showing → (ℕ → List ℕ)
+shown_by Line = shown_letter
+shown_by Lines = shown_in_lines
 
 -- a text of several lines as it is shown
 abbrev pub shown_lines : List ℕ → List ℕ

@@ -1,9 +1,9 @@
 //! Lines and texts are told.
 
-ghost use Rattle.std.specs.Prelude.{◌++◌, decimal};
+ghost use Rattle.std.specs.Prelude.{◌++◌, chars, decimal};
 ghost use Rattle.std.specs.Char.{encode_utf8};
 ghost use Rattle.std.specs.Char.Escape.{escape_default};
-ghost use Rattle.telling.specs.FaultLines.{Sends, Tells, end_of, head_of, line_of, rest_of, shown_in_lines, shown_letter, shown_lines, shown_path, spelled, subject_text};
+ghost use Rattle.telling.specs.FaultLines.{Sends, Tells, end_of, head_of, line_of, rest_of, shown_by, shown_in_lines, shown_letter, shown_lines, shown_path, spelled, subject_text};
 
 use crate::line::{Subject, SubjectLine};
 use itoa::Buffer;
@@ -13,6 +13,15 @@ use std::io::Write;
 const NAME: &str = "vsimtx: ";
 
 const NEWLINE: &str = "\n";
+
+/// How a text that others may have written is shown.
+#[derive(Clone, Copy)]
+pub(crate) enum Showing {
+    /// In one line: each control character is escaped.
+    Line,
+    /// In several lines: each control character but a newline is escaped.
+    Lines,
+}
 
 /// Tells a line of the program's own. Nobody is left to hear of a write that fails.
 pub fn tell<E: Write>(err: &mut Counted<E>, line: &SubjectLine<'_>)
@@ -33,7 +42,7 @@ pub fn tell_text<E: Write>(err: &mut Counted<E>, text: &str)
 pub fn tell_lines<E: Write>(err: &mut Counted<E>, text: &str)
     ensures { Tells E.contents err.old err.new (shown_lines text.now) }
 {
-    let _whole = send_lines(err, text);
+    let _whole = send_as_shown(err, text, Showing::Lines);
 }
 
 /// Shows a path, its control characters escaped, and a text behind it, up to the first write that fails; it answers whether none
@@ -41,7 +50,7 @@ pub fn tell_lines<E: Write>(err: &mut Counted<E>, text: &str)
 pub fn show_path<O: Write>(out: &mut Counted<O>, path: &str, text: &str) -> bool
     ensures { Sends result O.contents out.old out.new (shown_path path.now ++ text.now) }
 {
-    send_path(out, path) && send(out, text)
+    send_as_shown(out, path, Showing::Line) && send(out, text)
 }
 
 /// Sends a line up to its subject.
@@ -73,32 +82,30 @@ fn send_subject<E: Write>(err: &mut Counted<E>, subject: Subject<'_>) -> bool
         Subject::Nothing => true,
         Subject::Number(number) => send_number(err, number),
         Subject::Name(name) => send(err, name),
-        Subject::Path(path) => send_path(err, path),
+        Subject::Path(path) => send_as_shown(err, path, Showing::Line),
     }
 }
 
-/// Sends a path as it is shown: no control character of it reaches a terminal.
-fn send_path<E: Write>(err: &mut Counted<E>, path: &str) -> bool
-    ensures { Sends result E.contents err.old err.new (shown_path path.now) }
-{
-    for letter in path.chars() {
-        if !send_shown(err, letter) {
-            return false;
-        }
-    }
-    true
-}
-
-/// Sends a text of several lines as it is shown.
-fn send_lines<E: Write>(err: &mut Counted<E>, text: &str) -> bool
-    ensures { Sends result E.contents err.old err.new (shown_lines text.now) }
+/// Sends a text as it is shown: no control character of it reaches a terminal, but the newlines of a text of several lines.
+fn send_as_shown<E: Write>(err: &mut Counted<E>, text: &str, showing: Showing) -> bool
+    ensures { Sends result E.contents err.old err.new (spelled (shown_by showing) (chars text.now)) }
 {
     for letter in text.chars() {
-        if !send_in_lines(err, letter) {
+        if !send_by(err, showing, letter) {
             return false;
         }
     }
     true
+}
+
+/// Sends a character of a text as it is shown.
+fn send_by<E: Write>(err: &mut Counted<E>, showing: Showing, letter: char) -> bool
+    ensures { Sends result E.contents err.old err.new (shown_by showing letter) }
+{
+    match showing {
+        Showing::Line => send_shown(err, letter),
+        Showing::Lines => send_in_lines(err, letter),
+    }
 }
 
 /// Sends a character of a text of several lines: a newline as it is, and any other as it is shown.

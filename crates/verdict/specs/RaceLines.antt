@@ -5,7 +5,7 @@ use Rattle.verdict.specs.declared.race.RaceDescription.{RaceDescription}
 use Rattle.verdict.specs.declared.race.RoleDescription.{RoleDescription}
 use Rattle.verdict.specs.declared.race.RunDescription.{RunDescription}
 use Rattle.verdict.specs.declared.race.SiteDescription.{SiteDescription}
-use Rattle.verdict.specs.declared.race.SiteDescription.TheVariants.{Register, Printing, Strobing, Finishing}
+use Rattle.verdict.specs.declared.race.SiteDescription.TheVariants.{Register, Printing, Strobing, Finishing, Updating}
 use Rattle.verdict.specs.declared.race.ProcessDescription.{ProcessDescription}
 
 -- for what two processes race
@@ -14,6 +14,7 @@ site_text (Register name) = codes ": register " ++ name.now ++ codes ", time "
 site_text Printing = codes ": the order of lines, time "
 site_text Strobing = codes ": the order of strobes, time "
 site_text Finishing = codes ": the end of the run, time "
+site_text Updating = codes ": the order of updates, time "
 
 -- with which word a process begins
 abbrev pub begin_word : Bool → List ℕ
@@ -85,3 +86,7 @@ runs_text race =
 -- the lines on a race
 abbrev pub race_text : RaceDescription → List ℕ
 race_text race = race_title_text race ++ roles_text race ++ runs_text race
+
+-- the line on the first text and another one, by its number, for which no race was found
+abbrev pub unnamed_text : ℕ → List ℕ
+unnamed_text number = codes "texts 1 and " ++ decimal number ++ codes ": no two entries were found whose order parts them\n"

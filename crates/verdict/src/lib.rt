@@ -2,10 +2,10 @@
 //!
 //! 1. `claim` is what a search has come to: all lawful runs were followed, it stopped, or random orders were tried.
 //! 2. `verdict` puts into words how many texts there are and what that means for other runs. `phrases` has its parts.
-//! 3. `race` puts a race into lines, `difference` finds the first line in which the texts of its two runs differ, and `cut` says by
+//! 3. `race` puts a race into lines, or says that none was found between two texts, `difference` finds the first line in which the texts of its two runs differ, and `cut` says by
 //!    what a list of races was cut.
 //!
-//! What the layer above uses: `push_verdict`, `push_race` and `push_cut`, whose texts are pinned whole by `specs/Verdicts`, `specs/RaceLines`
+//! What the layer above uses: `push_verdict`, `push_race`, `push_unnamed` and `push_cut`, whose texts are pinned whole by `specs/Verdicts`, `specs/RaceLines`
 //! and `specs/CutLines`, and `first_difference` (`specs/VerdictLines`).
 #![tactic(auto)]
 
@@ -21,6 +21,6 @@ pub use cut::{ListCut, push_cut};
 pub use difference::{Difference, first_difference};
 pub use race::{
     ProcessDescription, RaceDescription, RoleDescription, RunDescription, SiteDescription,
-    push_race,
+    push_line, push_race, push_unnamed,
 };
 pub use verdict::{Verdict, push_verdict};

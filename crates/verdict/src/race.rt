@@ -1,19 +1,20 @@
 //! The lines on a race.
 
 ghost use Rattle.std.specs.Prelude.{◌≡◌, ◌++◌, OnOk, Some, option_map};
-ghost use Rattle.verdict.specs.RaceLines.{begin_text, in_quotes, saved_journal_text, differing_line_text, path_text, prefix_of, quoted_line, race_text, role_text, roles_text, run_text, runs_text, site_text, race_title_text};
+ghost use Rattle.verdict.specs.RaceLines.{begin_text, in_quotes, saved_journal_text, differing_line_text, path_text, prefix_of, quoted_line, race_text, role_text, roles_text, run_text, runs_text, site_text, race_title_text, unnamed_text};
 
 use crate::phrases::push_number;
 use std::alloc::AllocError;
 
-/// What two processes race for: a register, the order of the lines that they print, that of their strobes' lines, or the end of
-/// the run.
+/// What two processes race for: a register, the order of the lines that they print, that of their strobes' lines, the end of
+/// the run, or the order of updates.
 #[derive(Clone, Copy, Debug)]
 pub enum SiteDescription<'a> {
     Register(&'a str),
     Printing,
     Strobing,
     Finishing,
+    Updating,
 }
 
 /// Where a process begins: whether with `always` or with `initial`, and in which line of the source, counted from 1.
@@ -63,6 +64,15 @@ pub fn push_race(text: &mut Vec<u8>, race: &RaceDescription<'_>) -> Result<(), A
     push_runs(text, race)
 }
 
+/// Puts the line on the first text and another one, by its number, behind a text: that no two entries were found whose order parts them.
+pub fn push_unnamed(text: &mut Vec<u8>, number: usize) -> Result<(), AllocError>
+    ensures { OnOk result (text.new.items ≡ text.old.items ++ unnamed_text number) }
+{
+    text.extend_from_slice(b"texts 1 and ")?;
+    push_number(text, number as u64)?;
+    text.extend_from_slice(b": no two entries were found whose order parts them\n")
+}
+
 /// Puts the first line behind a text: the number of the race, what it is for, and the time.
 fn push_title(text: &mut Vec<u8>, race: &RaceDescription<'_>) -> Result<(), AllocError>
     ensures { OnOk result (text.new.items ≡ text.old.items ++ race_title_text race.entry.now) }
@@ -103,6 +113,7 @@ fn push_site(text: &mut Vec<u8>, site: SiteDescription<'_>) -> Result<(), AllocE
         SiteDescription::Printing => text.extend_from_slice(b": the order of lines, time "),
         SiteDescription::Strobing => text.extend_from_slice(b": the order of strobes, time "),
         SiteDescription::Finishing => text.extend_from_slice(b": the end of the run, time "),
+        SiteDescription::Updating => text.extend_from_slice(b": the order of updates, time "),
     }
 }
 
@@ -182,7 +193,7 @@ fn push_difference(text: &mut Vec<u8>, number: Option<usize>, line: &[u8]) -> Re
 }
 
 /// Puts the number of a line behind a text, and what that line is.
-fn push_line(text: &mut Vec<u8>, number: usize, line: &[u8]) -> Result<(), AllocError>
+pub fn push_line(text: &mut Vec<u8>, number: usize, line: &[u8]) -> Result<(), AllocError>
     ensures { OnOk result (text.new.items ≡ text.old.items ++ differing_line_text (Some number) line.now) }
 {
     text.extend_from_slice(b": line ")?;

@@ -59,6 +59,7 @@ is_turn event ActivateNba = 0
 is_turn event ActivateMonitor = 0
 is_turn event (Advance time) = 0
 
+-- 1 where this entry, if there is one, is the turn of the event, else 0
 abbrev pub is_turn_at : ℕ → Option Entry → ℕ
 is_turn_at event None = 0
 is_turn_at event (Some entry) = is_turn event entry

@@ -14,9 +14,9 @@ pub loop-transition-preserved : goal.loop-transition-preserved
 loop-transition-preserved c =
     let transitions = c.args.transitions.now in
     let at = c.loop-transition.transition-index in
-    let class = class_in c.args.classes.now in
+    let class = class_in c.args.scope.classes.now in
     let m = c.args.machine.now in
-    subst (λ (l : List LooseTransition). AreLooseWaysFor class m.code c.args.limits (state_at m) l c.add.new.ways.successors.items c.add.new.ways.ended.items) (sym (take_more transitions at (Process 0) (omega arith)))
-    (more_ways class m.code c.args.limits (state_at m) (take at transitions) (get_or transitions at (Process 0)) c.loop-transition.ways.successors.items c.add.new.ways.successors.items c.loop-transition.ways.ended.items c.add.new.ways.ended.items c.in_ok-way.way
+    subst (λ (l : List LooseTransition). AreLooseWaysFor class m.code c.args.scope.limits (state_at m) l c.add.new.ways.successors.items c.add.new.ways.ended.items) (sym (take_more transitions at (Process 0) (omega arith)))
+    (more_ways class m.code c.args.scope.limits (state_at m) (take at transitions) (get_or transitions at (Process 0)) c.loop-transition.ways.successors.items c.add.new.ways.successors.items c.loop-transition.ways.ended.items c.add.new.ways.ended.items c.in_ok-way.way
     c.loop-transition.invariant
-    (subst (λ (p : MachineView). IsWayBy class p.code c.args.limits (state_at p) (get_or transitions at (Process 0)) c.in_ok-way.way) c.in_ok-copy.ensures c.in_ok-way.ensures) c.in_ok-add.ensures)
+    (subst (λ (p : MachineView). IsWayBy class p.code c.args.scope.limits (state_at p) (get_or transitions at (Process 0)) c.in_ok-way.way) c.in_ok-copy.ensures c.in_ok-way.ensures) c.in_ok-add.ensures)

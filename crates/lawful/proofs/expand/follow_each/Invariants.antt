@@ -5,4 +5,4 @@ use Rattle.lawful.specs.LooseNodes.{AreLooseWaysFor}
 use Rattle.lawful.proofs.expand.follow_each.Given as goal
 
 abbrev pub invariant-loop-transition : goal.invariant-loop-transition
-invariant-loop-transition l = AreLooseWaysFor (class_in l.classes) l.machine.code l.limits (state_at l.machine) (take l.transition-index l.transitions) l.ways.successors.items l.ways.ended.items
+invariant-loop-transition l = AreLooseWaysFor (class_in l.scope.classes.now) l.machine.code l.scope.limits (state_at l.machine) (take l.transition-index l.transitions) l.ways.successors.items l.ways.ended.items

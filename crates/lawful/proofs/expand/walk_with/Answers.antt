@@ -9,8 +9,8 @@ use Rattle.lawful.proofs.expand.walk_with.Goals as goal
 
 pub walk_loosely-walked-requires-clause-reached : goal.walk_loosely-walked-requires-clause-reached
 walk_loosely-walked-requires-clause-reached c =
-    subst (λ (p : MachineView). IsLikeReached (class_in c.args.classes.now) (design_of p.code) (state_at p)) (sym c.exchange_log.ensures) c.requires.reached
+    subst (λ (p : MachineView). IsLikeReached (class_in c.args.scope.classes.now) (design_of p.code) (state_at p)) (sym c.exchange_log.ensures) c.requires.reached
 
 pub returns-then-is_finished-clause-walked : goal.returns-then-is_finished-clause-walked
 returns-then-is_finished-clause-walked c =
-    walk_begins (class_in c.args.classes.now) c.args.limits c.args.machine.now c.new.result.items c.new.ensures.items c.requires.silent c.requires.reached.order
+    walk_begins (class_in c.args.scope.classes.now) c.args.scope.limits c.args.machine.now c.new.result.items c.new.ensures.items c.requires.silent c.requires.reached.order

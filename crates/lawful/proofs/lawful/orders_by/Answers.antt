@@ -1,12 +1,12 @@
 -- What the search says of loose runs is said of lawful journals.
 use Rattle.std.proofs.Common.{◌≡◌, ℕ, List, sym, ◌∙◌, subst}
 use Rattle.std.specs.Prelude.{IfSome}
+use Rattle.std.proofs.lemmas.Option.{IfSome_then}
 use Rattle.model.specs.declared.end.Limits.{Limits}
 use Rattle.design.specs.Compiled.{Compiled}
 use Rattle.explore.specs.Search.{AreAllShown, IsEndless}
 use Rattle.loose.specs.Classes.{class_in}
 use Rattle.lawful.specs.LooseNodes.{searched_runs}
-use Rattle.lawful.proofs.EndlessRuns.{found_so}
 use Rattle.lawful.proofs.FoundOrders.{Searched, are_lawful_orders}
 use Rattle.lawful.proofs.lawful.orders_by.Goals as goal
 
@@ -17,7 +17,7 @@ with_all_journals-requires-clause-endless g c =
     let code : o.analyzed_design ≡ c.args.scope.design.now = c.new-orders.ensures.design ∙ c.of.ensures in
     let of_design = subst (λ (k : Compiled). IfSome loosely.endless (λ moves. IsEndless (searched_runs k (class_in o.classes.items) o.limits) moves.items)) code c.explore-explored.ensures.endless in
     let of_limits = subst (λ (l : Limits). IfSome loosely.endless (λ moves. IsEndless (searched_runs c.args.scope.design.now (class_in o.classes.items) l) moves.items)) c.new-orders.ensures.limits of_design in
-    subst (λ (cs : List ℕ). IfSome loosely.endless (λ moves. IsEndless (searched_runs c.args.scope.design.now (class_in cs) c.args.scope.limits) moves.items)) (sym c.deref.ensures.value) of_limits
+    subst (λ (cs : List ℕ). IfSome loosely.endless (λ moves. IsEndless (searched_runs c.args.scope.design.now (class_in cs) c.args.scope.limits) moves.items)) (sym c.as_slice.ensures.value) of_limits
 
 pub returns : goal.returns
 returns g c =
@@ -37,4 +37,4 @@ returns g c =
       nodes_full = ensures.nodes;
       shown_full = ensures.full;
     } in
-    found_so c.with_all_journals.result _ _ (λ x found. are_lawful_orders c.args.scope.design.now class c.args.scope.limits c.args.scope.bounds loosely x searched found) c.with_all_journals.ensures
+    IfSome_then c.with_all_journals.result c.with_all_journals.ensures (λ x found. are_lawful_orders c.args.scope.design.now class c.args.scope.limits c.args.scope.bounds loosely x searched found)

@@ -1,5 +1,5 @@
 -- One choice more was looked at, and whoever waits is one of them.
-use Rattle.std.proofs.Common.{◌≡◌, ◌⊎◌, true, arith}
+use Rattle.std.proofs.Common.{◌≡◌, ◌⊎◌, true}
 use Rattle.std.specs.List.{Contains}
 use Rattle.design.specs.Compiled.{design_of}
 use Rattle.regions.specs.Machine.{state_at}
@@ -15,5 +15,5 @@ loop-choice-preserved c =
 
 pub returns : goal.returns
 returns c =
-    λ a waits. seen_waiting (λ b. Contains c.args.group.now b ⊎ (wakes_actor c.args.note.now b ≡ true) → Contains c.loop-choice.next.items b) (class_in c.args.classes.now) (design_of c.args.machine.now.code) (state_at c.args.machine.now) c.deref-choice-items.result.now
-    c.in_ok-choices.choices.items c.loop-choice.choice-index a c.deref-choice-items.ensures.value c.in_ok-choices.ensures.permitted c.requires.order c.requires.going c.loop-choice-test.false c.loop-choice.invariant waits
+    λ going a waits. seen_waiting (λ b. Contains c.args.group.now b ⊎ (wakes_actor c.args.note.now b ≡ true) → Contains c.loop-choice.next.items b) (class_in c.args.classes.now) (design_of c.args.machine.now.code) (state_at c.args.machine.now) c.deref-choice-items.result.now
+    c.in_ok-choices.choices.items c.loop-choice.choice-index a c.deref-choice-items.ensures.value c.in_ok-choices.ensures.permitted c.requires going c.loop-choice-test.false c.loop-choice.invariant waits

@@ -4,7 +4,7 @@ use Rattle.loose.specs.Classes.{class_in}
 use Rattle.loosewalks.specs.Attempts.{IsFit}
 use Rattle.loosewalks.proofs.Walks.{phase_sole}
 use Rattle.loosewalks.proofs.Certifying.{certified_sole}
-use Rattle.loosewalks.proofs.Holding.{held_sole}
+use Rattle.loosewalks.proofs.Holding.{held_sole, settled_before, settled_sole}
 use Rattle.loosewalks.proofs.GoingOn.{all_ok}
 use Rattle.loosewalks.proofs.attempt.take_way.Goals as goal
 
@@ -20,9 +20,32 @@ returns-in-Certified-clause-sole c =
     let scope = c.args.scope in
     all_ok c.take_certified.result _ _ (λ certified. certified_sole (class_in scope.classes.now) scope.limits c.args.machine.now c.take_certified.new.machine c.take_certified.new.room.way.items c.requires.active (certified scope.limits)) c.take_certified.ensures.certified
 
+pub returns-in-HeldSettled-clause-sole : goal.returns-in-HeldSettled-clause-sole
+returns-in-HeldSettled-clause-sole c =
+    let scope = c.args.scope in
+    let old = c.args.machine.now in
+    let new = c.take_held.new.machine in
+    let network = scope.network.now in
+    let held = c.args.members.now in
+    let (may, settled) = subst (λ way. IsFit way old network held) c.in-HeldSettled.is c.requires.fit in
+    all_ok c.take_held.result _ _
+    (λ done. held_sole old new network held (class_in scope.classes.now) scope.limits c.take_held.new.room.way.items (done scope.limits may) c.requires.active (λ time. settled_before old new network held settled))
+    c.take_held.ensures.done
+
 pub returns-in-Held-clause-sole : goal.returns-in-Held-clause-sole
 returns-in-Held-clause-sole c =
     let scope = c.args.scope in
     let old = c.args.machine.now in
-    let fit = subst (λ way. IsFit way old scope.network.now c.args.members.now) c.in-Held.is c.requires.fit in
-    all_ok c.take_held.result _ _ (λ done. held_sole old c.take_held.new.machine scope.network.now c.args.members.now (class_in scope.classes.now) scope.limits c.take_held.new.room.way.items (done scope.limits fit) c.requires.active) c.take_held.ensures.done
+    let may = subst (λ way. IsFit way old scope.network.now c.args.members.now) c.in-Held.is c.requires.fit in
+    all_ok c.take_held_until_settled.result _ _
+    (λ done. settled_sole old c.take_held_until_settled.new.machine scope.network.now c.args.members.now (class_in scope.classes.now) scope.limits c.take_held_until_settled.new.room.way.items (done scope.limits may) c.requires.active)
+    c.take_held_until_settled.ensures.done
+
+pub returns-in-HeldRest-clause-sole : goal.returns-in-HeldRest-clause-sole
+returns-in-HeldRest-clause-sole c =
+    let scope = c.args.scope in
+    let old = c.args.machine.now in
+    let may = subst (λ way. IsFit way old scope.network.now c.args.members.now) c.in-HeldRest.is c.requires.fit in
+    all_ok c.take_held_until_settled-in-HeldRest.result _ _
+    (λ done. settled_sole old c.take_held_until_settled-in-HeldRest.new.machine scope.network.now c.args.members.now (class_in scope.classes.now) scope.limits c.take_held_until_settled-in-HeldRest.new.room.way.items (done scope.limits may) c.requires.active)
+    c.take_held_until_settled-in-HeldRest.ensures.done

@@ -1,5 +1,5 @@
 -- One event after another with its note, until none is active.
-use Rattle.std.proofs.Common.{◌∙◌, Option, refl, subst}
+use Rattle.std.proofs.Common.{◌∙◌, Option, refl, rules, subst}
 use Rattle.std.specs.Prelude.{IfSome}
 use Rattle.regions.specs.Machine.{state_at}
 use Rattle.loose.specs.Classes.{class_in}
@@ -12,7 +12,7 @@ pub loop-init : goal.loop-init
 loop-init c =
     record {
       code = refl;
-      noted = λ limits. noted_none (class_in c.args.classes.now) limits c.args.machine.now c.clear-2.new.self c.clear.new.self.items c.clear-2.ensures c.clear.ensures.items;
+      noted = λ limits. noted_none (class_in c.args.classes.now) limits c.args.machine.now _ _ (search rules) (search rules);
     }
 
 pub loop-preserved : goal.loop-preserved

@@ -11,7 +11,7 @@ use Rattle.loosewalks.proofs.held.take_held.Goals as goal
 
 pub returns-clause-done : goal.returns-clause-done
 returns-clause-done c = λ on limits may.
-    let network = c.args.network.now in
+    let network = c.args.scope.network.now in
     let held = c.args.held.now in
     let old = c.args.machine.now in
     let us = c.active.result.0.now.items in
@@ -28,6 +28,6 @@ returns-clause-done c = λ on limits may.
           let some : 1 ≤ evaluations_in p (map evaluation_event es) = omega (arith, is, inside_told old.core c.state.result.now us es p c.active.ensures c.state.ensures) in
           ap (λ (l : List ℕ). contains l p) c.in_ok-pending.ensures ∙ evaluated_there p es some;
       off = subst (λ (l : List ℕ). KeptOff network held l c.take_others.new.room.certificate) c.deref.ensures.value
-          (subst (λ (ns : List NoteView). KeptOff network held c.deref.result.now ns) c.notes.ensures (c.in_ok-keep_off.ensures c.if-not-branch-2.false));
+          (subst (λ (ns : List NoteView). KeptOff network held c.deref.result.now ns) c.notes-notes.ensures (c.in_ok-keep_off.ensures c.if-not-branch-2.false));
       passed = record { takes = c.in_ok-all.ensures.on on limits old c.take_others.ensures.code others.others.takes; over = c.in_ok-all.ensures.over on };
     }

@@ -7,6 +7,7 @@ use Rattle.combinational.specs.Found.{IsNetworkOf}
 use Rattle.settling.specs.Settled.{HaveSettledSince}
 use Rattle.loose.specs.Classes.{class_in}
 use Rattle.loosewalks.specs.LooseWalking.{HasPassedBy, HasPassedPhase}
+use Rattle.loosewalks.proofs.GoingOn.{phase_rests}
 use Rattle.loosewalks.proofs.phase.take_phase.Goals as goal
 
 pub settle_since-requires : goal.settle_since-requires
@@ -26,6 +27,6 @@ returns-clause-passed c =
     let passed : HasPassedBy class limits old way new = c.in_ok-take_active.ensures.passed c.if-not-branch.false limits in
     record {
       passed = passed;
-      settle = λ phase time. settled on old (record { begins = c.in_ok-begin.ensures; phase = phase; code = sym c.take_active.ensures.code; time = time; over = passed.over });
+      settle = λ phase time. settled on old (phase_rests c.in_ok-begin.begin old new network members c.in_ok-begin.ensures phase (sym c.take_active.ensures.code) time passed.over);
     })
     c.settle_since.ensures

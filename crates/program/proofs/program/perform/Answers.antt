@@ -134,3 +134,24 @@ returns-in-Version-clause-wanting g c = λ words asks.
     let left = Keeps (g.O.Write.contents (held c.args.out.now)) (g.O.Write.contents (held c.perform_version.new.out)) in
     left_unless_one (g.F.Files.held c.args.files.now) words (g.O.Write.contents (held c.args.out.now)) (g.O.Write.contents (held c.perform_version.new.out)) (g.F.Files.made c.args.files.now) (g.F.Files.made c.args.files.now) c.perform_version.result (one_only left c.perform_version.result c.perform_version.ensures.fault)
     (if_err _ c.perform_version.result (λ f other. kept (g.F.Files.made c.args.files.now)))
+
+pub returns-in-Diff-clause-ended : goal.returns-in-Diff-clause-ended
+returns-in-Diff-clause-ended g c = λ words asks. c.diff_journals.ensures.ended words (subst (Asks words) c.in-Diff.is asks)
+
+pub returns-in-Diff-clause-checked : goal.returns-in-Diff-clause-checked
+returns-in-Diff-clause-checked g c = λ words asks begins. absurd (check_alone words c.args.request.now (ap is_check c.in-Diff.is) asks begins)
+
+pub returns-in-Diff-clause-refused : goal.returns-in-Diff-clause-refused
+returns-in-Diff-clause-refused g c = λ words asks begins. absurd (explain_alone words c.args.request.now (ap is_explain c.in-Diff.is) asks begins)
+
+pub returns-in-Diff-clause-nothing : goal.returns-in-Diff-clause-nothing
+returns-in-Diff-clause-nothing g c = λ words asks.
+    unless_one (Keeps (g.O.Write.contents (held c.args.out.now)) (g.O.Write.contents (held c.diff_journals.new.out))) words c.diff_journals.result c.diff_journals.ensures.nothing
+
+pub returns-in-Diff-clause-unsaved : goal.returns-in-Diff-clause-unsaved
+returns-in-Diff-clause-unsaved g c = if_err _ c.diff_journals.result (λ f source. c.diff_journals.ensures.unsaved)
+
+pub returns-in-Diff-clause-wanting : goal.returns-in-Diff-clause-wanting
+returns-in-Diff-clause-wanting g c = λ words asks.
+    left_unless_one (g.F.Files.held c.args.files.now) words (g.O.Write.contents (held c.args.out.now)) (g.O.Write.contents (held c.diff_journals.new.out)) (g.F.Files.made c.args.files.now) (g.F.Files.made c.diff_journals.new.files) c.diff_journals.result c.diff_journals.ensures.nothing
+    (if_err _ c.diff_journals.result (λ f other. c.diff_journals.ensures.unsaved))

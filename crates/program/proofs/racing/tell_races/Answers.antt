@@ -1,9 +1,11 @@
 -- The lines that were shown tell the races, with the texts that are known from then on.
-use Rattle.std.proofs.Common.{ℕ, List, option_map, subst}
+use Rattle.std.proofs.Common.{◌∙◌, ℕ, ◌<◌, List, length, option_map, subst}
 use Rattle.std.specs.Io.KnownBytes.{Appends}
 use Rattle.model.specs.declared.entry.Entry.{Entry}
 use Rattle.model.specs.declared.end.End.{End}
 use Rattle.explore.specs.declared.Shown.{Shown}
+use Rattle.races.specs.Causes.{HasAnswer}
+use Rattle.races.specs.declared.told.Cause.{Cause}
 use Rattle.races.specs.declared.told.RaceBounds.{RaceBounds}
 use Rattle.naming.specs.Naming.{TellsRaces}
 use Rattle.program.proofs.racing.tell_races.Goals as goal
@@ -16,14 +18,18 @@ returns-clause-told g c =
     let prefix = option_map (λ path. path.now) request.journals in
     let race_bounds : RaceBounds = record { pairs = 1000; races = 64; entries = 20000000 } in
     let found = c.races_of-found.result in
+    let causes = c.first_causes-causes.result in
+    let known = c.in_ok-known.known.items in
     let first = c.in_ok-lines.lines.items in (
       first,
       record {
-        race_bounds = race_bounds;
-        found = found;
         are_races = c.races_of-found.ensures;
         are_known = c.in_ok-known.ensures;
-        tells = subst (λ (ss : List (Shown Entry End)). TellsRaces source design ss prefix race_bounds found first) c.as_slice.ensures.value c.in_ok-lines.ensures;
+        are_causes = c.first_causes-causes.ensures.are;
+        answered = subst (λ (ss : List (Shown Entry End)). 1 < length ss → HasAnswer found causes) c.as_slice.ensures.value c.first_causes-causes.ensures.answered;
+        texts = c.len-texts.ensures ∙ c.in_ok-known.known.ok.0;
+        tells = subst (λ (cs : List Cause). TellsRaces source design known prefix race_bounds found cs first) c.as_slice-3.ensures.value
+            (subst (λ (ss : List (Shown Entry End)). TellsRaces source design ss prefix race_bounds found c.as_slice-3.result.now first) c.as_slice-2.ensures.value c.in_ok-lines.ensures);
       },
-      subst (λ (l : List ℕ). Appends (g.O.Write.contents c.args.out.now) (g.O.Write.contents c.show_bytes.new.out) l) c.as_slice-2.ensures.value c.in_ok-show_bytes.ensures.written,
+      subst (λ (l : List ℕ). Appends (g.O.Write.contents c.args.out.now) (g.O.Write.contents c.show_bytes.new.out) l) c.as_slice-4.ensures.value c.in_ok-show_bytes.ensures.written,
     )

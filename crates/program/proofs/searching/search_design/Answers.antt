@@ -5,8 +5,18 @@ use Rattle.std.specs.Io.KnownBytes.{Appends, Keeps}
 use Rattle.files.specs.Saved.{KeepsFiles, SavesSomeWhereAsked}
 use Rattle.program.specs.Findings.{journals_of}
 use Rattle.program.proofs.Ended.{if_err, output_same}
-use Rattle.program.proofs.Searched.{search_begun, texts_left, texts_shown}
+use Rattle.program.proofs.Searched.{early_answered, early_causes, search_begun, texts_left, texts_shown, told_behind}
 use Rattle.program.proofs.searching.search_design.Goals as goal
+
+pub more_lines-requires-clause-are : goal.more_lines-requires-clause-are
+more_lines-requires-clause-are g c = λ κs _.
+    early_causes c.args.source.now c.args.design.now c.args.request.now.search_options (option_map (λ path. path.now) c.args.request.now.journals) c.in_ok-early.early (g.O.Write.contents c.args.out.now) (g.O.Write.contents c.tell_races.new.out)
+    c.in_ok-early.ensures.told
+
+pub more_lines-requires-clause-answered : goal.more_lines-requires-clause-answered
+more_lines-requires-clause-answered g c = λ κs _.
+    early_answered c.args.source.now c.args.design.now c.args.request.now.search_options (option_map (λ path. path.now) c.args.request.now.journals) c.in_ok-early.early (g.O.Write.contents c.args.out.now) (g.O.Write.contents c.tell_races.new.out)
+    c.in_ok-early.ensures.told
 
 pub returns-clause-shown : goal.returns-clause-shown
 returns-clause-shown g c = λ holding file held.
@@ -15,9 +25,11 @@ returns-clause-shown g c = λ holding file held.
     let prefix = option_map (λ path. path.now) request.journals in
     let begun = g.O.Write.contents c.tell_races.new.out in
     let end = g.O.Write.contents c.tell_texts.new.out in
-    texts_shown holding file c.args.source.now c.args.design.now request.search_options prefix c.in_ok-known.known.items texts.claim texts.shown.items (option_map (λ journal. journal.items) texts.endless) (g.O.Write.contents c.args.out.now) begun end
-    (g.F.Files.made c.args.files.now) (g.F.Files.made c.try_first.new.files) (g.F.Files.made c.tell_texts.new.files) c.in_ok-last.last.items c.tell_texts.result held c.requires c.in_ok-known.ensures.told c.in_ok-texts.ensures.found
-    c.in_ok-texts.ensures.grown c.in_ok-last.ensures c.in_ok-try_first.ensures.kept (subst (λ (l : List ℕ). OnOk c.tell_texts.result (Appends begun end l)) c.as_slice.ensures.value c.tell_texts.ensures.told)
+    texts_shown holding file c.args.source.now c.args.design.now request.search_options prefix c.in_ok-early.early texts.claim texts.shown.items (option_map (λ journal. journal.items) texts.endless) (g.O.Write.contents c.args.out.now) begun end
+    (g.F.Files.made c.args.files.now) (g.F.Files.made c.try_first.new.files) (g.F.Files.made c.tell_texts.new.files) c.in_ok-last.last.items c.tell_texts.result held c.requires c.in_ok-early.ensures.told c.in_ok-texts.ensures.found
+    c.in_ok-texts.ensures.grown
+    (told_behind c.args.source.now c.args.design.now request.search_options prefix c.in_ok-early.early.races texts.claim texts.shown.items c.as_slice.result.now c.in_ok-more.more.items c.in_ok-said.said.items c.as_slice-2.result.now
+    c.in_ok-last.last.items c.as_slice.ensures.value c.in_ok-more.ensures c.in_ok-said.ensures c.as_slice-2.ensures.value c.in_ok-last.ensures) c.in_ok-try_first.ensures.kept (subst (λ (l : List ℕ). OnOk c.tell_texts.result (Appends begun end l)) c.as_slice-3.ensures.value c.tell_texts.ensures.told)
     c.tell_texts.ensures.saved c.tell_texts.ensures.finding
 
 pub returns-clause-wanting : goal.returns-clause-wanting
@@ -30,10 +42,12 @@ returns-clause-wanting g c = λ holding file held.
     let tried = g.F.Files.made c.try_first.new.files in
     let saved = g.F.Files.made c.tell_texts.new.files in
     let endless = option_map (λ journal. journal.items) texts.endless in
-    texts_left holding file c.args.source.now c.args.design.now request.search_options prefix c.in_ok-known.known.items texts.claim texts.shown.items endless (g.O.Write.contents c.args.out.now) begun end (g.F.Files.made c.args.files.now) tried saved
-    c.in_ok-last.last.items c.tell_texts.result held c.requires c.in_ok-known.ensures.told c.in_ok-texts.ensures.found c.in_ok-texts.ensures.grown c.in_ok-last.ensures c.in_ok-try_first.ensures.kept
+    texts_left holding file c.args.source.now c.args.design.now request.search_options prefix c.in_ok-early.early texts.claim texts.shown.items endless (g.O.Write.contents c.args.out.now) begun end (g.F.Files.made c.args.files.now) tried saved
+    c.in_ok-last.last.items c.tell_texts.result held c.requires c.in_ok-early.ensures.told c.in_ok-texts.ensures.found c.in_ok-texts.ensures.grown
+    (told_behind c.args.source.now c.args.design.now request.search_options prefix c.in_ok-early.early.races texts.claim texts.shown.items c.as_slice.result.now c.in_ok-more.more.items c.in_ok-said.said.items c.as_slice-2.result.now
+    c.in_ok-last.last.items c.as_slice.ensures.value c.in_ok-more.ensures c.in_ok-said.ensures c.as_slice-2.ensures.value c.in_ok-last.ensures) c.in_ok-try_first.ensures.kept
     (subst (λ (l : List ℕ). IfErr c.tell_texts.result (λ f. status_of f ≡ 6 → (Keeps begun end × KeepsFiles tried saved) ⊎ (Appends begun end l × SavesSomeWhereAsked tried saved prefix (journals_of texts.shown.items endless))))
-    c.as_slice.ensures.value c.tell_texts.ensures.wanting)
+    c.as_slice-3.ensures.value c.tell_texts.ensures.wanting)
 
 pub returns-in_err-try_first-clause-wanting : goal.returns-in_err-try_first-clause-wanting
 returns-in_err-try_first-clause-wanting g c = λ holding file held. if_err _ c.from_residual.result (λ f six. inl (output_same (g.O.Write.contents c.args.out.now), c.in_err-try_first.ensures.kept))
@@ -41,11 +55,23 @@ returns-in_err-try_first-clause-wanting g c = λ holding file held. if_err _ c.f
 pub returns-in_err-texts-clause-wanting : goal.returns-in_err-texts-clause-wanting
 returns-in_err-texts-clause-wanting g c = λ holding file held.
     if_err _ c.from_residual-in_err-texts.result
-    (λ f six. search_begun holding file c.args.source.now c.args.design.now c.args.request.now.search_options (option_map (λ path. path.now) c.args.request.now.journals) c.in_ok-known.known.items (g.O.Write.contents c.args.out.now) (g.O.Write.contents c.tell_races.new.out)
-    (g.F.Files.made c.args.files.now) (g.F.Files.made c.try_first.new.files) held c.requires c.in_ok-known.ensures.told c.in_ok-try_first.ensures.kept)
+    (λ f six. search_begun holding file c.args.source.now c.args.design.now c.args.request.now.search_options (option_map (λ path. path.now) c.args.request.now.journals) c.in_ok-early.early (g.O.Write.contents c.args.out.now) (g.O.Write.contents c.tell_races.new.out)
+    (g.F.Files.made c.args.files.now) (g.F.Files.made c.try_first.new.files) held c.requires c.in_ok-early.ensures.told c.in_ok-try_first.ensures.kept)
 
 pub returns-in_err-last-clause-wanting : goal.returns-in_err-last-clause-wanting
 returns-in_err-last-clause-wanting g c = λ holding file held.
     if_err _ c.from_residual-in_err-last.result
-    (λ f six. search_begun holding file c.args.source.now c.args.design.now c.args.request.now.search_options (option_map (λ path. path.now) c.args.request.now.journals) c.in_ok-known.known.items (g.O.Write.contents c.args.out.now) (g.O.Write.contents c.tell_races.new.out)
-    (g.F.Files.made c.args.files.now) (g.F.Files.made c.try_first.new.files) held c.requires c.in_ok-known.ensures.told c.in_ok-try_first.ensures.kept)
+    (λ f six. search_begun holding file c.args.source.now c.args.design.now c.args.request.now.search_options (option_map (λ path. path.now) c.args.request.now.journals) c.in_ok-early.early (g.O.Write.contents c.args.out.now) (g.O.Write.contents c.tell_races.new.out)
+    (g.F.Files.made c.args.files.now) (g.F.Files.made c.try_first.new.files) held c.requires c.in_ok-early.ensures.told c.in_ok-try_first.ensures.kept)
+
+pub returns-in_err-more-clause-wanting : goal.returns-in_err-more-clause-wanting
+returns-in_err-more-clause-wanting g c = λ holding file held.
+    if_err _ c.from_residual-in_err-more.result
+    (λ f six. search_begun holding file c.args.source.now c.args.design.now c.args.request.now.search_options (option_map (λ path. path.now) c.args.request.now.journals) c.in_ok-early.early (g.O.Write.contents c.args.out.now) (g.O.Write.contents c.tell_races.new.out)
+    (g.F.Files.made c.args.files.now) (g.F.Files.made c.try_first.new.files) held c.requires c.in_ok-early.ensures.told c.in_ok-try_first.ensures.kept)
+
+pub returns-in_err-said-clause-wanting : goal.returns-in_err-said-clause-wanting
+returns-in_err-said-clause-wanting g c = λ holding file held.
+    if_err _ c.from_residual-in_err-said.result
+    (λ f six. search_begun holding file c.args.source.now c.args.design.now c.args.request.now.search_options (option_map (λ path. path.now) c.args.request.now.journals) c.in_ok-early.early (g.O.Write.contents c.args.out.now) (g.O.Write.contents c.tell_races.new.out)
+    (g.F.Files.made c.args.files.now) (g.F.Files.made c.try_first.new.files) held c.requires c.in_ok-early.ensures.told c.in_ok-try_first.ensures.kept)

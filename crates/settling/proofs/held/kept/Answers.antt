@@ -1,9 +1,10 @@
--- Those that are left are members.
-use Rattle.std.proofs.Common.{sym, subst}
-use Rattle.regions.specs.Machine.{state_at}
-use Rattle.settling.specs.Settling.{ArePendingOrSettled}
+-- Those that are left are among those that were.
+use Rattle.std.proofs.Common.{◌∙◌, ℕ, List, ap, sym}
+use Rattle.model.specs.Turns.{contains}
 use Rattle.settling.proofs.held.kept.Goals as goal
 
-pub unawaited-requires : goal.unawaited-requires
-unawaited-requires c =
-    record { each = subst (ArePendingOrSettled c.args.machine.now.code (state_at c.args.machine.now) c.args.network.now) (sym c.deref.ensures.value) c.loop.invariant }
+pub returns-then-len : goal.returns-then-len
+returns-then-len c = λ p there. c.loop.invariant p (ap (λ (l : List ℕ). contains l p) (sym c.deref.ensures.value) ∙ c.in_ok-fewer.ensures p there)
+
+pub loop-preserved : goal.loop-preserved
+loop-preserved c = λ p there. c.loop.invariant p (ap (λ (l : List ℕ). contains l p) (sym c.deref.ensures.value) ∙ c.in_ok-fewer.ensures p there)

@@ -1,7 +1,6 @@
--- Those that are left are members.
-use Rattle.regions.specs.Machine.{state_at}
-use Rattle.settling.specs.Settling.{ArePendingOrSettled}
+-- Those that are left are among the members.
+use Rattle.settling.specs.Settling.{AreSomeOf}
 use Rattle.settling.proofs.held.kept.Given as goal
 
 abbrev pub invariant-loop : goal.invariant-loop
-invariant-loop l = ArePendingOrSettled l.machine.code (state_at l.machine) l.network l.members.items
+invariant-loop l = AreSomeOf l.members.items l.fn.members.items

@@ -20,6 +20,5 @@ returns c = λ on.
       apart = apart_told (updated_in s) registers outputs outputs c.requires.registers refl (c.share.ensures.apart c.if-share.false);
       outputs_are = c.requires.outputs;
       outputs_sleep = sleep_told m.code c.design.result.now m.core c.state.result.now m.values c.processes-processes.result.now c.event_controls-controls.result.now members outputs outputs c.design.ensures c.stands.ensures c.event_controls-controls.ensures c.processes-processes.ensures c.state.ensures refl (c.others_sleep.ensures on);
-      each = λ p there. (c.requires.each p there).member;
+      each = c.requires.each;
     })
-    c.requires.each

@@ -1,6 +1,5 @@
 -- One part behind another.
-use Rattle.std.proofs.Common.{codes, List, ℕ, [], ◌∷◌, ◌++◌}
-use Rattle.telling.specs.FaultLines.{end_of}
+use Rattle.std.proofs.Common.{[], ◌∷◌}
 use Rattle.telling.proofs.Sent.{sends_then, sends_broken}
 use Rattle.telling.proofs.telling.send_end.Goals as goal
 

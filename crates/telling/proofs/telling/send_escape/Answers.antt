@@ -1,5 +1,5 @@
 -- One character more of the escape, or the end.
-use Rattle.std.proofs.Common.{◌≡◌, true, false, length, rules, subst}
+use Rattle.std.proofs.Common.{◌≡◌, true, false, length, rules}
 use Rattle.std.proofs.lemmas.Iterator.Consumers.{YieldsList-turn, YieldsList-end}
 use Rattle.std.specs.Char.{encode_utf8}
 use Rattle.std.specs.Char.Escape.{escape_default}

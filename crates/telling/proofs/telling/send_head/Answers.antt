@@ -1,6 +1,5 @@
 -- One part behind another.
-use Rattle.std.proofs.Common.{codes, List, ℕ, [], ◌∷◌, ◌++◌}
-use Rattle.telling.specs.FaultLines.{head_of}
+use Rattle.std.proofs.Common.{codes}
 use Rattle.telling.proofs.Sent.{sends_then, sends_broken}
 use Rattle.telling.proofs.telling.send_head.Goals as goal
 

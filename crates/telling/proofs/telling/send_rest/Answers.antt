@@ -1,5 +1,4 @@
 -- One part behind another.
-use Rattle.std.proofs.Common.{codes, List, ℕ, [], ◌∷◌, ◌++◌}
 use Rattle.telling.specs.FaultLines.{end_of, subject_text}
 use Rattle.telling.proofs.Sent.{sends_then, sends_broken}
 use Rattle.telling.proofs.telling.send_rest.Goals as goal

@@ -1,0 +1,140 @@
+-- Runs that are followed from time to time.
+use Rattle.std.proofs.Common.{◌≡◌, ◌∙◌, ap, sym, refl, subst, ℕ, zero, suc, ◌+◌, ◌<◌, ◌≤◌, Bool, true, false, nat_lt, List, [], ◌∷◌, ◌++◌, length, take, drop, if◌then◌else◌, append-nil, drop-cons, Option, Some, arith}
+use Rattle.std.specs.Prelude.{flat_map, slice_index, slice_index_or}
+use Rattle.std.specs.List.Sorted.{IsStrictlyIncreasing}
+use Rattle.std.proofs.lemmas.Bool.{ltb-true, ltb-false}
+use Rattle.std.proofs.lemmas.Grind.{flat_map-append, get_or_default_zero}
+use Rattle.std.proofs.lemmas.List.{take_more}
+use Rattle.logic4.specs.Vector.{Vector}
+use Rattle.model.specs.declared.entry.Entry.{Entry}
+use Rattle.model.specs.declared.entry.Entry.TheVariants.{Turn, Update, ActivateInactive, ActivateNba, ActivateMonitor, Advance}
+use Rattle.model.specs.Design.{Design}
+use Rattle.model.specs.States.{State, start}
+use Rattle.model.specs.Runs.{Effect, run}
+use Rattle.design.specs.Compiled.{Compiled, design_of}
+use Rattle.regions.specs.Machine.{MachineView, state_at}
+use Rattle.replay.specs.Replays.{IsBehind}
+use Rattle.replay.proofs.AtStart.{behind_none}
+use Rattle.differences.specs.declared.value_difference.ValueDifference.{ValueDifference}
+use Rattle.differences.specs.ComparedValues.{count_until, differing, goes_past, rows_at, values_after, values_when}
+use Rattle.differences.specs.Following.{IsFollowed, IsFollowedSince, IsFollowedTo}
+
+-- how many entries come before a time passes
+
+past_later : (t u : ℕ) (e : Entry) → t ≤ u → goes_past t e ≡ false → goes_past u e ≡ true → ⊥
+past_later t u (Turn number) le h k = cc
+past_later t u (Update number) le h k = cc
+past_later t u ActivateInactive le h k = cc
+past_later t u ActivateNba le h k = cc
+past_later t u ActivateMonitor le h k = cc
+past_later t u (Advance next) le h k = omega (arith, le, ltb-false t next h, ltb-true u next k)
+
+counted : (t : ℕ) (e : Entry) (es : List Entry) (b : Bool) → goes_past t e ≡ b → count_until t (e ∷ es) ≡ (if b then 0 else suc (count_until t es))
+counted t e es b h = ap (λ (c : Bool). if c then 0 else suc (count_until t es)) h
+
+-- one entry more, where so it is behind it
+further_by : (t u : ℕ) (e : Entry) (es : List Entry) (b c : Bool) → t ≤ u → goes_past t e ≡ b → goes_past u e ≡ c → count_until u es ≡ count_until t es + count_until u (drop (count_until t es) es)
+    → count_until u (e ∷ es) ≡ count_until t (e ∷ es) + count_until u (drop (count_until t (e ∷ es)) (e ∷ es))
+further_by t u e es true c le h k rest =
+    subst (λ (n : ℕ). count_until u (e ∷ es) ≡ n + count_until u (drop n (e ∷ es))) (sym (counted t e es true h)) (omega arith)
+further_by t u e es false true le h k rest = absurd (past_later t u e le h k)
+further_by t u e es false false le h k rest =
+    let here : count_until u (e ∷ es) ≡ suc (count_until u es) = counted u e es false k in
+    let one : suc (count_until u es) ≡ suc (count_until t es) + count_until u (drop (count_until t es) es) = omega (arith, rest) in
+    subst (λ (n : ℕ). count_until u (e ∷ es) ≡ n + count_until u (drop n (e ∷ es))) (sym (counted t e es false h)) (here ∙ one)
+
+pub further : (t u : ℕ) (es : List Entry) → t ≤ u → count_until u es ≡ count_until t es + count_until u (drop (count_until t es) es)
+further t u [] le = omega arith
+further t u (e ∷ es) le = further_by t u e es (goes_past t e) (goes_past u e) le refl refl (further t u es le)
+
+-- the entry at a place, and those behind it
+
+opened : (es : List Entry) (at : ℕ) (d : Entry) → at < length es → drop at es ≡ slice_index_or es at d ∷ drop (at + 1) es
+opened es at d inside =
+    let next : suc at ≡ at + 1 = omega arith in
+    drop-cons es at d inside ∙ ap (λ (n : ℕ). slice_index_or es at d ∷ drop n es) next
+
+pub until_here : (t : ℕ) (es : List Entry) (at : ℕ) (d : Entry) → at < length es → goes_past t (slice_index_or es at d) ≡ true → count_until t (drop at es) ≡ 0
+until_here t es at d inside past = ap (count_until t) (opened es at d inside) ∙ counted t (slice_index_or es at d) (drop (at + 1) es) true past
+
+pub until_next : (t : ℕ) (es : List Entry) (at : ℕ) (d : Entry) → at < length es → goes_past t (slice_index_or es at d) ≡ false
+    → (at + 1) + count_until t (drop (at + 1) es) ≡ at + count_until t (drop at es)
+until_next t es at d inside past =
+    let here : count_until t (drop at es) ≡ suc (count_until t (drop (at + 1) es)) =
+    ap (count_until t) (opened es at d inside) ∙ counted t (slice_index_or es at d) (drop (at + 1) es) false past in
+    omega (arith, here)
+
+pub until_end : (t : ℕ) (es : List Entry) (at : ℕ) → length es ≤ at → count_until t (drop at es) ≡ 0
+until_end t [] zero h = refl
+until_end t [] (suc at) h = refl
+until_end t (e ∷ es) zero h = absurd (omega (arith, h))
+until_end t (e ∷ es) (suc at) h = until_end t es at (omega (arith, h))
+
+-- a machine that took so many entries
+
+pub followed_at : (journal : List Entry) (at : ℕ) (p : MachineView) → at ≤ length journal → IsBehind (take at journal) p → p.core.entries ≡ at → IsFollowed journal p
+followed_at journal at p within behind count = record {
+  within = subst (λ (n : ℕ). n ≤ length journal) (sym count) within;
+  behind = subst (λ (n : ℕ). IsBehind (take n journal) p) (sym count) behind;
+}
+
+-- where the entries up to a time are taken
+pub passed : (journal : List Entry) (t at from : ℕ) (p : MachineView) → p.core.entries ≡ at → at + count_until t (drop at journal) ≡ from + count_until t (drop from journal)
+    → count_until t (drop at journal) ≡ 0 → p.core.entries ≡ from + count_until t (drop from journal)
+passed journal t at from p count h none = omega (arith, count, h, none)
+
+-- at the start
+pub followed_none : (code : Compiled) (journal : List Entry) (times : List ℕ) (p : MachineView) → p.code ≡ code → state_at p ≡ start (design_of code) → p.lines ≡ [] → p.core.entries ≡ 0
+    → IsFollowedSince journal times 0 p
+followed_none code journal times p same first lines none = record {
+  followed = followed_at journal 0 p (omega arith) (behind_none code p same first lines) none;
+  ahead = λ time after. subst (λ (n : ℕ). count_until time journal ≡ n + count_until time (drop n journal)) (sym none) (omega arith);
+}
+
+-- one time more
+
+module _ (journal : List Entry) (times : List ℕ) (place d : ℕ) (old new : MachineView) (inside : place < length times) (rise : IsStrictlyIncreasing times)
+    (since : IsFollowedSince journal times place old) (to : IsFollowedTo (slice_index_or times place d) journal old new) where
+  same_time : slice_index_or times place d ≡ slice_index times place
+  same_time = get_or_default_zero times place d inside
+
+  later : (k : ℕ) → k + 1 ≡ place → slice_index times k ≤ slice_index_or times place d
+  later k is =
+      let lower : slice_index times k < slice_index times (k + 1) = rise k (omega (arith, is, inside)) in
+      let there : slice_index times (k + 1) ≡ slice_index times place = ap (slice_index times) is in
+      omega (arith, lower, there, same_time)
+
+  pub count_there : new.core.entries ≡ count_until (slice_index_or times place d) journal
+  count_there = to.count ∙ sym (since.ahead (slice_index_or times place d) later)
+
+  pub since_next : IsFollowedSince journal times (place + 1) new
+  since_next = record {
+    followed = to.followed;
+    ahead = λ time after.
+        let reached : slice_index times place ≤ time = after place refl in
+        let le : slice_index_or times place d ≤ time = omega (arith, reached, same_time) in
+        subst (λ (n : ℕ). count_until time journal ≡ n + count_until time (drop n journal)) (sym count_there) (further (slice_index_or times place d) time journal le);
+  }
+
+  pub values_there : (code : Compiled) → new.code ≡ code → new.values ≡ values_when (design_of code) journal (slice_index_or times place d)
+  values_there code same =
+      let ran : run (design_of code) (take new.core.entries journal) ≡ Some to.followed.behind.effect =
+      ap (λ (c : Compiled). run (design_of c) (take new.core.entries journal)) (sym same) ∙ to.followed.behind.is_run in
+      ap (λ (s : State). s.store) (sym to.followed.behind.state_is)
+      ∙ (ap values_after (sym ran) ∙ ap (λ (n : ℕ). values_after (run (design_of code) (take n journal))) count_there)
+
+-- the rows of one time more
+pub rows_next : (design : Design) (first second : List Entry) (times : List ℕ) (place d : ℕ) (rows rows' : List ValueDifference) (one other : List Vector) → place < length times
+    → rows ≡ flat_map (rows_at design first second) (take place times) → rows' ≡ rows ++ differing (slice_index_or times place d) 0 one other
+    → one ≡ values_when design first (slice_index_or times place d) → other ≡ values_when design second (slice_index_or times place d)
+    → rows' ≡ flat_map (rows_at design first second) (take (place + 1) times)
+rows_next design first second times place d rows rows' one other inside before put is_one is_other =
+    let time : ℕ = slice_index_or times place d in
+    let rows_of : ℕ → List ValueDifference = rows_at design first second in
+    let here : differing time 0 one other ≡ rows_of time =
+    ap (λ (v : List Vector). differing time 0 v other) is_one ∙ ap (λ (v : List Vector). differing time 0 (values_when design first time) v) is_other in
+    let all : flat_map rows_of (take (place + 1) times) ≡ flat_map rows_of (take place times) ++ rows_of time =
+    ap (flat_map rows_of) (take_more times place d inside)
+    ∙ (flat_map-append rows_of (take place times) (time ∷ []) ∙ ap (λ (l : List ValueDifference). flat_map rows_of (take place times) ++ l) (append-nil (rows_of time))) in
+    put ∙ (ap (λ (l : List ValueDifference). l ++ differing time 0 one other) before
+    ∙ (ap (λ (l : List ValueDifference). flat_map rows_of (take place times) ++ l) here ∙ sym all))

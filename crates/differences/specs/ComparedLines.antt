@@ -1,0 +1,97 @@
+-- The lines on two journals.
+use Rattle.std.specs.Prelude.{◌≡◌, ℕ, ◌==◌, Bool, true, false, nat_lt, if◌then◌else◌, List, [], ◌∷◌, ◌++◌, length, Some, codes, decimal}
+use Rattle.model.specs.declared.entry.Entry.{Entry}
+use Rattle.model.specs.Runs.{has_any}
+use Rattle.explain.specs.declared.phrases.SourceNames.{SourceNames}
+use Rattle.explain.specs.EntryText.{IsEntryLine}
+use Rattle.explain.specs.Phrases.{register_text, value_text}
+use Rattle.verdict.specs.RaceLines.{differing_line_text}
+use Rattle.verdict.specs.VerdictLines.{HaveSameLines, IsFirstDifference}
+use Rattle.differences.specs.declared.value_difference.ValueDifference.{ValueDifference}
+
+-- what comes behind the entries that two journals have in common, by whether each has more
+abbrev pub title_end : Bool → Bool → List ℕ
+title_end true true = codes "; then the journals part\n"
+title_end false true = codes "; then the first journal ends\n"
+title_end true false = codes "; then the second journal ends\n"
+title_end false false = codes "; the journals are the same\n"
+
+-- how many entries two journals have in common, and what comes then
+abbrev pub title_text : ℕ → Bool → Bool → List ℕ
+title_text count first second = codes "common entries: " ++ decimal count ++ title_end first second
+
+-- The line of the entry of a journal behind those in common, in words, where there is one.
+abbrev pub IsSideText : SourceNames → List Entry → ℕ → List ℕ → Bool → List ℕ → Type 0
+IsSideText names journal count label true text = (line : List ℕ) × IsEntryLine names journal count line × (text ≡ label ++ line)
+IsSideText names journal count label false text = text ≡ []
+
+-- such a line was put behind a text
+pub record PutsSide (names : SourceNames) (journal : List Entry) (count : ℕ) (label : List ℕ) (old new : List ℕ) : Type 0 where
+  pub text : List ℕ
+  pub is_text : IsSideText names journal count label (nat_lt count (length journal)) text
+  pub put : new ≡ old ++ text
+
+-- Where two journals part, and the entry of each there.
+pub record IsPartingText (names : SourceNames) (first second : List Entry) (count : ℕ) (text : List ℕ) : Type 0 where
+  pub one : List ℕ
+  pub is_one : IsSideText names first count (codes "  first: ") (nat_lt count (length first)) one
+  pub other : List ℕ
+  pub is_other : IsSideText names second count (codes "  second: ") (nat_lt count (length second)) other
+  pub text_is : text ≡ title_text count (nat_lt count (length first)) (nat_lt count (length second)) ++ one ++ other
+
+-- that was put behind a text
+pub record PutsParting (names : SourceNames) (first second : List Entry) (count : ℕ) (old new : List ℕ) : Type 0 where
+  pub text : List ℕ
+  pub is_text : IsPartingText names first second count text
+  pub put : new ≡ old ++ text
+
+-- the first line in which two texts differ, as each has it
+abbrev pub different_text : ℕ → List ℕ → List ℕ → List ℕ
+different_text number first second =
+    codes "they print different lines\n  first" ++ differing_line_text (Some number) first ++ codes "  second" ++ differing_line_text (Some number) second
+
+-- What is said of the lines of two runs: that they are the same, or the first that differs, as each has it.
+abbrev pub IsLinesText : List ℕ → List ℕ → Bool → List ℕ → Type 0
+IsLinesText one other true text = HaveSameLines one other × (text ≡ codes "they print the same lines\n")
+IsLinesText one other false text =
+    (number : ℕ) × (first : List ℕ) × (second : List ℕ) × IsFirstDifference one other number first second × (text ≡ different_text number first second)
+
+-- that was put behind a text
+pub record PutsLinesText (one other old new : List ℕ) (same : Bool) : Type 0 where
+  pub text : List ℕ
+  pub is_text : IsLinesText one other same text
+  pub put : new ≡ old ++ text
+
+-- what is said of the ends of two runs, of which each is told in words
+abbrev pub ends_text : Bool → List ℕ → List ℕ → List ℕ
+ends_text true one other = codes "they end alike\n"
+ends_text false one other = codes "they end differently\n  first: " ++ one ++ codes "  second: " ++ other
+
+-- a register whose values differ
+abbrev pub row_text : SourceNames → ValueDifference → List ℕ
+row_text names d =
+    codes "time " ++ decimal d.time ++ codes "  " ++ register_text names d.register ++ codes "  " ++ value_text d.first ++ codes "  "
+    ++ value_text d.second ++ codes "\n"
+
+-- so all of them
+abbrev pub row_lines : SourceNames → List ValueDifference → List ℕ
+row_lines names [] = []
+row_lines names (d ∷ ds) = row_text names d ++ row_lines names ds
+
+-- what is said before them, by whether there are any
+abbrev pub values_title : Bool → List ℕ
+values_title true = codes "registers differ when time passes\n"
+values_title false = codes "the registers have the same values whenever time passes\n"
+
+-- what is said of the registers
+abbrev pub values_text : SourceNames → List ValueDifference → List ℕ
+values_text names ds = values_title (has_any ds) ++ row_lines names ds
+
+-- which of two runs ends earlier, and when
+abbrev pub stop_head : ℕ → ℕ → List ℕ
+stop_head one other =
+    if nat_lt one other then codes "the first run ends at time " ++ decimal one else codes "the second run ends at time " ++ decimal other
+
+-- where one run ends earlier than the other, and so no later time is compared
+abbrev pub stop_text : ℕ → ℕ → List ℕ
+stop_text one other = if one == other then [] else stop_head one other ++ codes ", and later times aren't compared\n"

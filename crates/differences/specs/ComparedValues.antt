@@ -1,0 +1,76 @@
+-- Which registers differ in two runs when a time passes.
+use Rattle.std.specs.Prelude.{◌≡◌, ◌⊎◌, ◌↔◌, ℕ, suc, ◌+◌, ◌≤◌, Bool, true, false, nat_le, nat_lt, if◌then◌else◌, List, [], ◌∷◌, take, Option, Some, None}
+use Rattle.std.specs.List.{Contains}
+use Rattle.std.specs.List.Sorted.{IsStrictlyIncreasing}
+use Rattle.logic4.specs.Vector.{Vector}
+use Rattle.logic4.specs.Operators.{same_vector}
+use Rattle.model.specs.declared.entry.Entry.{Entry}
+use Rattle.model.specs.declared.entry.Entry.TheVariants.{Turn, Update, ActivateInactive, ActivateNba, ActivateMonitor, Advance}
+use Rattle.model.specs.Design.{Design}
+use Rattle.model.specs.Expressions.{Store}
+use Rattle.model.specs.Runs.{Effect, run}
+use Rattle.differences.specs.declared.value_difference.ValueDifference.{ValueDifference}
+
+-- whether an entry advances past a time
+abbrev pub goes_past : ℕ → Entry → Bool
+goes_past time (Turn number) = false
+goes_past time (Update number) = false
+goes_past time ActivateInactive = false
+goes_past time ActivateNba = false
+goes_past time ActivateMonitor = false
+goes_past time (Advance next) = nat_lt time next
+
+-- how many entries of a journal come before a time passes: those before the first advance past it
+abbrev pub count_until : ℕ → List Entry → ℕ
+count_until time [] = 0
+count_until time (e ∷ es) = if goes_past time e then 0 else suc (count_until time es)
+
+-- the values of the registers that some entries leave
+abbrev pub values_after : Option Effect → Store
+values_after (Some e) = e.state.store
+values_after None = []
+
+-- the values of the registers in the run of a journal when a time passes
+abbrev pub values_when : Design → List Entry → ℕ → Store
+values_when design journal time = values_after (run design (take (count_until time journal) journal))
+
+-- a time that ends in a journal: 0, or one that it advances to
+abbrev pub IsTimeIn : List Entry → ℕ → Type 0
+IsTimeIn journal time = (time ≡ 0) ⊎ Contains journal (Advance time)
+
+-- a time at which two journals are compared: it ends in one of them, and isn't past the last one
+abbrev pub IsComparedTime : List Entry → List Entry → ℕ → ℕ → Type 0
+IsComparedTime first second last time = (IsTimeIn first time ⊎ IsTimeIn second time) × (time ≤ last)
+
+-- these are all such times, in order
+pub record AreComparedTimes (first second : List Entry) (last : ℕ) (times : List ℕ) : Type 0 where
+  pub rise : IsStrictlyIncreasing times
+  pub all : (time : ℕ) → Contains times time ↔ IsComparedTime first second last time
+
+-- a time, where it isn't past the last one
+abbrev pub up_to : ℕ → ℕ → List ℕ
+up_to last time = if nat_le time last then time ∷ [] else []
+
+-- the time that an entry advances to, where that isn't past the last one
+abbrev pub advance_to : ℕ → Entry → List ℕ
+advance_to last (Turn number) = []
+advance_to last (Update number) = []
+advance_to last ActivateInactive = []
+advance_to last ActivateNba = []
+advance_to last ActivateMonitor = []
+advance_to last (Advance time) = up_to last time
+
+-- a register before others, unless its two values are the same
+abbrev pub with_difference : Bool → ValueDifference → List ValueDifference → List ValueDifference
+with_difference true d ds = ds
+with_difference false d ds = d ∷ ds
+
+-- the registers from one number on whose values differ at a time
+abbrev pub differing : ℕ → ℕ → List Vector → List Vector → List ValueDifference
+differing time r (one ∷ firsts) (other ∷ seconds) =
+    with_difference (same_vector one other) (record { time = time; register = r; first = one; second = other }) (differing time (r + 1) firsts seconds)
+differing time r _ _ = []
+
+-- the registers whose values in the runs of two journals differ when a time passes
+abbrev pub rows_at : Design → List Entry → List Entry → ℕ → List ValueDifference
+rows_at design first second time = differing time 0 (values_when design first time) (values_when design second time)

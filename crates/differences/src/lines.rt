@@ -1,0 +1,169 @@
+//! The lines on two journals.
+
+ghost use Rattle.std.specs.Prelude.{◌≡◌, ◌++◌, IfOk, OnOk};
+ghost use Rattle.model.specs.Runs.{has_any};
+ghost use Rattle.differences.specs.ComparedLines.{PutsLinesText, different_text, ends_text, row_lines, row_text, stop_head, stop_text, title_end, title_text, values_text, values_title};
+
+use crate::value_difference::ValueDifference;
+use explain::{SourceNames, push_labelled, push_register, push_value};
+use std::alloc::AllocError;
+use verdict::{Difference, first_difference, push_line};
+
+// What is said of two journals behind the number of the entries that they have in common, by whether each has more.
+fn title_end(first: bool, second: bool) -> &'static str
+    ensures { result.now ≡ title_end first second }
+{
+    match (first, second) {
+        (true, true) => "; then the journals part\n",
+        (false, true) => "; then the first journal ends\n",
+        (true, false) => "; then the second journal ends\n",
+        (false, false) => "; the journals are the same\n",
+    }
+}
+
+/// Puts behind a text how many entries two journals have in common, and what comes then, by whether each has more.
+pub(crate) fn push_title(
+    text: &mut Vec<u8>,
+    count: usize,
+    first: bool,
+    second: bool,
+) -> Result<(), AllocError>
+    ensures { OnOk result (text.new.items ≡ text.old.items ++ title_text count first second) }
+{
+    push_labelled(text, b"common entries: ", count as u64)?;
+    text.extend_from_slice(title_end(first, second).as_bytes())
+}
+
+// Puts the first line in which two texts differ behind a text.
+fn push_different(text: &mut Vec<u8>, difference: &Difference<'_>) -> Result<(), AllocError>
+    ensures { OnOk result (text.new.items ≡ text.old.items ++ different_text difference.entry.now.line difference.entry.now.first.now difference.entry.now.second.now) }
+{
+    text.extend_from_slice(b"they print different lines\n  first")?;
+    push_line(text, difference.line, difference.first)?;
+    text.extend_from_slice(b"  second")?;
+    push_line(text, difference.line, difference.second)
+}
+
+/// Puts what is said of the lines of two runs behind a text, and answers whether they are the same.
+pub(crate) fn push_lines(
+    text: &mut Vec<u8>,
+    first: &[u8],
+    second: &[u8],
+) -> Result<bool, AllocError>
+    ensures { IfOk result (PutsLinesText first.now second.now text.old.items text.new.items) }
+{
+    match first_difference(first, second) {
+        Some(difference) => {
+            push_different(text, &difference)?;
+            Ok(false)
+        }
+        None => {
+            text.extend_from_slice(b"they print the same lines\n")?;
+            Ok(true)
+        }
+    }
+}
+
+/// Puts what is said of the ends of two runs behind a text, of which each is told in words.
+pub(crate) fn push_ends(
+    text: &mut Vec<u8>,
+    alike: bool,
+    first: &[u8],
+    second: &[u8],
+) -> Result<(), AllocError>
+    ensures { OnOk result (text.new.items ≡ text.old.items ++ ends_text alike first.now second.now) }
+{
+    if alike {
+        return text.extend_from_slice(b"they end alike\n");
+    }
+    text.extend_from_slice(b"they end differently\n  first: ")?;
+    text.extend_from_slice(first)?;
+    text.extend_from_slice(b"  second: ")?;
+    text.extend_from_slice(second)
+}
+
+// Puts the line of a register whose values differ behind a text.
+fn push_row(
+    text: &mut Vec<u8>,
+    names: &SourceNames<'_>,
+    row: &ValueDifference,
+) -> Result<(), AllocError>
+    ensures { OnOk result (text.new.items ≡ text.old.items ++ row_text names.entry.now row.now) }
+{
+    push_labelled(text, b"time ", row.time)?;
+    text.extend_from_slice(b"  ")?;
+    push_register(text, names, row.register)?;
+    text.extend_from_slice(b"  ")?;
+    push_value(text, row.first)?;
+    text.extend_from_slice(b"  ")?;
+    push_value(text, row.second)?;
+    text.extend_from_slice(b"\n")
+}
+
+// Puts a line for each register whose values differ behind a text.
+fn push_rows(
+    text: &mut Vec<u8>,
+    names: &SourceNames<'_>,
+    rows: &[ValueDifference],
+) -> Result<(), AllocError>
+    ensures { OnOk result (text.new.items ≡ text.old.items ++ row_lines names.entry.now rows.now) }
+{
+    for place in 0..rows.len() {
+        push_row(text, names, &rows[place])?;
+    }
+    Ok(())
+}
+
+// Puts what is said before the registers behind a text.
+fn values_title(differ: bool) -> &'static str
+    ensures { result.now ≡ values_title differ }
+{
+    match differ {
+        true => "registers differ when time passes\n",
+        false => "the registers have the same values whenever time passes\n",
+    }
+}
+
+/// Puts what is said of the registers behind a text.
+pub(crate) fn push_values(
+    text: &mut Vec<u8>,
+    names: &SourceNames<'_>,
+    rows: &[ValueDifference],
+) -> Result<(), AllocError>
+    ensures { OnOk result (text.new.items ≡ text.old.items ++ values_text names.entry.now rows.now) }
+{
+    text.extend_from_slice(values_title(has_any(rows)).as_bytes())?;
+    push_rows(text, names, rows)
+}
+
+/// Whether there is something in a list.
+pub(crate) fn has_any<T>(list: &[T]) -> bool
+    ensures { result ≡ has_any list.now }
+{
+    match list {
+        [] => false,
+        _ => true,
+    }
+}
+
+// Puts which of two runs ends earlier behind a text, and when.
+fn push_stop_head(text: &mut Vec<u8>, first: u64, second: u64) -> Result<(), AllocError>
+    ensures { OnOk result (text.new.items ≡ text.old.items ++ stop_head first second) }
+{
+    if first < second {
+        push_labelled(text, b"the first run ends at time ", first)
+    } else {
+        push_labelled(text, b"the second run ends at time ", second)
+    }
+}
+
+/// Puts behind a text where one run ends earlier than the other, and so no later time is compared.
+pub(crate) fn push_stop(text: &mut Vec<u8>, first: u64, second: u64) -> Result<(), AllocError>
+    ensures { OnOk result (text.new.items ≡ text.old.items ++ stop_text first second) }
+{
+    if first == second {
+        return Ok(());
+    }
+    push_stop_head(text, first, second)?;
+    text.extend_from_slice(b", and later times aren't compared\n")
+}
