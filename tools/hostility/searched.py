@@ -42,14 +42,22 @@ VERDICT = re.compile(rb"^(?:no|one|\d+) texts?\b.*", re.MULTILINE)
 
 
 def races_of(out):
-    """The lines of each race, but for its number and its journals."""
+    """The races: the line of each, but for its number, and of both of its processes, in either order, what it does and what comes of it where it is first."""
     races = []
     for line in out.split(b"\n"):
         if re.match(rb"race \d+: ", line):
             races.append([re.sub(rb"^race \d+", b"race", line)])
         elif races and line.startswith(b"  ") and len(races[-1]) < 5:
             races[-1].append(re.sub(rb" \(\S+\.journal\)", b"", line))
-    return {tuple(it) for it in races}
+    return {either_way(it) for it in races}
+
+
+def either_way(lines):
+    """A race as it is told whichever of its two processes is named first."""
+    if len(lines) < 5:
+        return tuple(lines)
+    title, one, other, one_first, other_first = lines
+    return title, frozenset([(one, one_first.partition(b": ")[2]), (other, other_first.partition(b": ")[2])])
 
 
 def read(path):
