@@ -16,8 +16,8 @@ use Rattle.regions.specs.Machine.{MachineView, state_at}
 use Rattle.replay.specs.Replays.{IsBehind}
 use Rattle.replay.proofs.AtStart.{behind_none}
 use Rattle.differences.specs.declared.value_difference.ValueDifference.{ValueDifference}
-use Rattle.differences.specs.ComparedValues.{count_until, differing, goes_past, rows_at, values_after, values_when}
-use Rattle.differences.specs.Following.{IsFollowed, IsFollowedSince, IsFollowedTo}
+use Rattle.differences.specs.ComparedValues.{count_until, differing, goes_past, rows_at, store_left, values_when}
+use Rattle.differences.specs.Following.{IsRunFollowed, IsFollowedSince, IsFollowedTo}
 
 -- how many entries come before a time passes
 
@@ -72,7 +72,7 @@ until_end t (e ∷ es) (suc at) h = until_end t es at (omega (arith, h))
 
 -- a machine that took so many entries
 
-pub followed_at : (journal : List Entry) (at : ℕ) (p : MachineView) → at ≤ length journal → IsBehind (take at journal) p → p.core.entries ≡ at → IsFollowed journal p
+pub followed_at : (journal : List Entry) (at : ℕ) (p : MachineView) → at ≤ length journal → IsBehind (take at journal) p → p.core.entries ≡ at → IsRunFollowed journal p
 followed_at journal at p within behind count = record {
   within = subst (λ (n : ℕ). n ≤ length journal) (sym count) within;
   behind = subst (λ (n : ℕ). IsBehind (take n journal) p) (sym count) behind;
@@ -121,7 +121,7 @@ module _ (journal : List Entry) (times : List ℕ) (place d : ℕ) (old new : Ma
       let ran : run (design_of code) (take new.core.entries journal) ≡ Some to.followed.behind.effect =
       ap (λ (c : Compiled). run (design_of c) (take new.core.entries journal)) (sym same) ∙ to.followed.behind.is_run in
       ap (λ (s : State). s.store) (sym to.followed.behind.state_is)
-      ∙ (ap values_after (sym ran) ∙ ap (λ (n : ℕ). values_after (run (design_of code) (take n journal))) count_there)
+      ∙ (ap store_left (sym ran) ∙ ap (λ (n : ℕ). store_left (run (design_of code) (take n journal))) count_there)
 
 -- the rows of one time more
 pub rows_next : (design : Design) (first second : List Entry) (times : List ℕ) (place d : ℕ) (rows rows' : List ValueDifference) (one other : List Vector) → place < length times

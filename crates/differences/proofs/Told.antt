@@ -1,6 +1,6 @@
 -- What is told of two journals, put together.
 use Rattle.std.proofs.Common.{◌≡◌, ◌∙◌, ap, sym, refl, subst, ℕ, ◌<◌, ◌≤◌, ◌&&◌, min, not, Bool, true, false, nat_lt, List, [], ◌++◌, length, append_assoc, append-nil, codes, string_bytes, Result, Ok, Err, IfOk, OnOk, is_ok, if◌then◌else◌, arith}
-use Rattle.std.specs.Prelude.{flat_map}
+use Rattle.std.specs.Prelude.{◌↔◌, IsTrue, flat_map}
 use Rattle.std.proofs.lemmas.Bool.{ltb-true, lt-ltb}
 use Rattle.explain.proofs.Pieces.{joined}
 use Rattle.model.specs.declared.entry.Entry.{Entry}
@@ -10,6 +10,7 @@ use Rattle.locations.specs.SourceLocations.{AreProcesses}
 use Rattle.model.specs.Runs.{Effect, has_any, is_quiet, run}
 use Rattle.design.specs.Compiled.{Compiled, design_of}
 use Rattle.explain.specs.declared.phrases.SourceNames.{SourceNames}
+use Rattle.explain.specs.EntryLines.{plain_style}
 use Rattle.explain.specs.EntryText.{PutsEntryLine}
 use Rattle.explain.specs.ExplainedEnd.{IsEndText, PutsEnd}
 use Rattle.explain.specs.Explained.{IsFaultOfEntries}
@@ -20,19 +21,19 @@ use Rattle.replay.specs.Replays.{IsBehind}
 use Rattle.differences.specs.declared.fault.JournalSide.{JournalSide}
 use Rattle.differences.specs.declared.fault.RunFault.{RunFault}
 use Rattle.differences.specs.declared.fault.RunFault.TheVariants as running
-use Rattle.differences.specs.CompareFaults.{IsCompareFaultOf, IsRunFaultOf, fault_of, journal_of, untold}
+use Rattle.differences.specs.CompareFaults.{IsCompareFaultOf, IsRunFaultOf, compare_fault_of, journal_of, untold}
 use Rattle.differences.specs.declared.comparison.Comparison.{Comparison}
 use Rattle.differences.specs.declared.summary.RunSummary.{RunSummary}
 use Rattle.differences.specs.declared.value_difference.ValueDifference.{ValueDifference}
 use Rattle.differences.specs.Parting.{PartBehind}
 use Rattle.differences.specs.Summaries.{IsSummaryOf}
 use Rattle.differences.specs.ComparedValues.{AreComparedTimes, rows_at}
-use Rattle.differences.specs.ComparedLines.{IsLinesText, IsSideText, PutsLinesText, PutsParting, PutsSide, ends_text, stop_text, title_text, values_text}
-use Rattle.differences.specs.Comparisons.{AreRowsUpTo, IsCompared, IsComparison, PutsTold, alike, end_alike, last_compared}
+use Rattle.differences.specs.ComparedLines.{IsLinesText, IsSideText, PutsLinesText, PutsParting, PutsSide, ends_text, earlier_end_text, parting_title_text, values_text}
+use Rattle.differences.specs.Comparisons.{AreEndsAlike, AreRowsUpTo, EndAlike, IsCompared, IsComparison, PutsTold, last_compared}
 
 -- a fault of one of two journals, and why a line isn't put
 
-pub side_fault : (code : Compiled) (first second : List Entry) (side : JournalSide) (f : RunFault) → IsRunFaultOf code (journal_of side first second) f → IsCompareFaultOf code first second (fault_of side f)
+pub side_fault : (code : Compiled) (first second : List Entry) (side : JournalSide) (f : RunFault) → IsRunFaultOf code (journal_of side first second) f → IsCompareFaultOf code first second (compare_fault_of side f)
 side_fault code first second side (running.Replay fault) h = h
 side_fault code first second side running.Memory h = tt
 
@@ -80,11 +81,11 @@ side_put names journal count label old mid new inside labelled line = record {
 
 -- the title, and both sides
 pub parting_put : (names : SourceNames) (first second : List Entry) (count : ℕ) (a b : Bool) (old titled one other : List ℕ) → a ≡ nat_lt count (length first) → b ≡ nat_lt count (length second)
-    → titled ≡ old ++ title_text count a b → (label_one label_other : List ℕ) → PutsSide names first count label_one titled one → PutsSide names second count label_other one other
+    → titled ≡ old ++ parting_title_text count a b → (label_one label_other : List ℕ) → PutsSide names first count label_one titled one → PutsSide names second count label_other one other
     → label_one ≡ codes "  first: " → label_other ≡ codes "  second: " → PutsParting names first second count old other
 parting_put names first second count a b old titled one other is_a is_b title label_one label_other left right is_one is_other =
-    let head : List ℕ = title_text count (nat_lt count (length first)) (nat_lt count (length second)) in
-    let titled_is : titled ≡ old ++ head = title ∙ (ap (λ (x : Bool). old ++ title_text count x b) is_a ∙ ap (λ (x : Bool). old ++ title_text count (nat_lt count (length first)) x) is_b) in
+    let head : List ℕ = parting_title_text count (nat_lt count (length first)) (nat_lt count (length second)) in
+    let titled_is : titled ≡ old ++ head = title ∙ (ap (λ (x : Bool). old ++ parting_title_text count x b) is_a ∙ ap (λ (x : Bool). old ++ parting_title_text count (nat_lt count (length first)) x) is_b) in
     record {
       text = head ++ left.text ++ right.text;
       is_text = record {
@@ -109,36 +110,38 @@ last_put (Err e) new mid b target put is = tt
 
 -- all that is told behind where they part
 pub told_put : (names : SourceNames) (one other : RunSummary) (rows : List ValueDifference) (old t1 t2 t3 t4 : List ℕ) (same_lines like same : Bool)
-    → PutsLinesText (string_bytes one.lines) (string_bytes other.lines) old t1 same_lines → like ≡ alike one.time one.finished one.quiet other.time other.finished other.quiet
-    → t2 ≡ t1 ++ ends_text like one.ending.items other.ending.items → t3 ≡ t2 ++ values_text names rows → t4 ≡ t3 ++ stop_text one.time other.time
-    → same ≡ (same_lines && (like && not (has_any rows))) → PutsTold names one other rows old t4 same
+    → PutsLinesText (string_bytes one.lines) (string_bytes other.lines) old t1 same_lines
+    → IsTrue like ↔ AreEndsAlike one.time one.finished one.quiet other.time other.finished other.quiet → t2 ≡ t1 ++ ends_text like one.ending.items other.ending.items
+    → t3 ≡ t2 ++ values_text names rows → t4 ≡ t3 ++ earlier_end_text one.time other.time → same ≡ (same_lines && (like && not (has_any rows))) → PutsTold names one other rows old t4 same
 told_put names one other rows old t1 t2 t3 t4 same_lines like same lines is_like ends values stop is_same = record {
   same_lines = same_lines;
   printed = lines.text;
   is_printed = lines.is_text;
-  put = four old lines.text (ends_text (alike one.time one.finished one.quiet other.time other.finished other.quiet) one.ending.items other.ending.items) (values_text names rows)
-      (stop_text one.time other.time) t1 t2 t3 t4 lines.put (ends ∙ ap (λ (b : Bool). t1 ++ ends_text b one.ending.items other.ending.items) is_like) values stop;
-  same_is = is_same ∙ ap (λ (b : Bool). same_lines && (b && not (has_any rows))) is_like;
+  same_ends = like;
+  end_alike = is_like;
+  put = four old lines.text (ends_text like one.ending.items other.ending.items) (values_text names rows) (earlier_end_text one.time other.time) t1 t2 t3 t4 lines.put ends values stop;
+  same_is = is_same;
 }
 
 -- two runs whose summaries end alike end alike
-alike_so : (t t' u u' : ℕ) (f f' g g' q q' r r' : Bool) → t ≡ t' → f ≡ f' → q ≡ q' → u ≡ u' → g ≡ g' → r ≡ r' → alike t f q u g r ≡ alike t' f' q' u' g' r'
-alike_so t t' u u' f f' g g' q q' r r' ht hf hq hu hg hr =
-    ap (λ (x : ℕ). alike x f q u g r) ht
-    ∙ (ap (λ (x : Bool). alike t' x q u g r) hf
-    ∙ (ap (λ (x : Bool). alike t' f' x u g r) hq
-    ∙ (ap (λ (x : ℕ). alike t' f' q' x g r) hu ∙ (ap (λ (x : Bool). alike t' f' q' u' x r) hg ∙ ap (λ (x : Bool). alike t' f' q' u' g' x) hr))))
+alike_so : (b : Bool) (t t' u u' : ℕ) (f f' g g' q q' r r' : Bool) → t ≡ t' → f ≡ f' → q ≡ q' → u ≡ u' → g ≡ g' → r ≡ r' → IsTrue b ↔ AreEndsAlike t f q u g r → IsTrue b ↔ AreEndsAlike t' f' q' u' g' r'
+alike_so b t t' u u' f f' g g' q q' r r' ht hf hq hu hg hr h =
+    subst (λ (x : Bool). IsTrue b ↔ AreEndsAlike t' f' q' u' g' x) hr
+    (subst (λ (x : Bool). IsTrue b ↔ AreEndsAlike t' f' q' u' x r) hg
+    (subst (λ (x : ℕ). IsTrue b ↔ AreEndsAlike t' f' q' x g r) hu
+    (subst (λ (x : Bool). IsTrue b ↔ AreEndsAlike t' f' x u g r) hq
+    (subst (λ (x : Bool). IsTrue b ↔ AreEndsAlike t' x q u g r) hf (subst (λ (x : ℕ). IsTrue b ↔ AreEndsAlike x f q u g r) ht h)))))
 
 -- the whole
 pub compared_by : (names : SourceNames) (code : Compiled) (first second : List Entry) (one other : RunSummary) (rows : List ValueDifference) (last count : ℕ) (parted : List ℕ) (r : Comparison)
     → IsSummaryOf code first one → IsSummaryOf code second other → last ≡ min one.time other.time → AreRowsUpTo (design_of code) first second last rows → PartBehind first second count
     → (start : List ℕ) → start ≡ [] → PutsParting names first second count start parted → PutsTold names one other rows parted r.text.items r.same → IsCompared names (design_of code) first second r
 compared_by names code first second one other rows last count parted r left right is_last found part start empty parting told =
-    let like : alike one.time one.finished one.quiet other.time other.finished other.quiet ≡ end_alike left.effect.state right.effect.state =
-    alike_so one.time left.effect.state.time other.time right.effect.state.time one.finished left.effect.state.finished other.finished right.effect.state.finished
-    one.quiet (is_quiet left.effect.state) other.quiet (is_quiet right.effect.state) left.time left.finished left.quiet right.time right.finished right.quiet in
-    let stop : stop_text one.time other.time ≡ stop_text left.effect.state.time right.effect.state.time =
-    ap (λ (n : ℕ). stop_text n other.time) left.time ∙ ap (stop_text left.effect.state.time) right.time in
+    let like : IsTrue told.same_ends ↔ EndAlike left.effect.state right.effect.state =
+    alike_so told.same_ends one.time left.effect.state.time other.time right.effect.state.time one.finished left.effect.state.finished other.finished right.effect.state.finished
+    one.quiet (is_quiet left.effect.state) other.quiet (is_quiet right.effect.state) left.time left.finished left.quiet right.time right.finished right.quiet told.end_alike in
+    let stop : earlier_end_text one.time other.time ≡ earlier_end_text left.effect.state.time right.effect.state.time =
+    ap (λ (n : ℕ). earlier_end_text n other.time) left.time ∙ ap (earlier_end_text left.effect.state.time) right.time in
     let end_is : last ≡ last_compared left.effect.state right.effect.state =
     is_last ∙ (ap (λ (n : ℕ). min n other.time) left.time ∙ ap (min left.effect.state.time) right.time) in
     let parted_is : parted ≡ parting.text = parting.put ∙ ap (λ (l : List ℕ). l ++ parting.text) empty in
@@ -161,27 +164,27 @@ compared_by names code first second one other rows last count parted r left righ
       is_other_end = right.ending;
       times = found.times;
       are_times = subst (λ (n : ℕ). AreComparedTimes first second n found.times) end_is found.are_times;
+      same_ends = told.same_ends;
+      end_alike = like;
       text_is = told.put
-          ∙ (ap (λ (p : List ℕ). p ++ told.printed ++ ends_text (alike one.time one.finished one.quiet other.time other.finished other.quiet) one.ending.items other.ending.items ++ values_text names rows ++ stop_text one.time other.time) parted_is
-          ∙ (ap (λ (b : Bool). parting.text ++ told.printed ++ ends_text b one.ending.items other.ending.items ++ values_text names rows ++ stop_text one.time other.time) like
-          ∙ (ap (λ (l : List ValueDifference). parting.text ++ told.printed ++ ends_text (end_alike left.effect.state right.effect.state) one.ending.items other.ending.items ++ values_text names l ++ stop_text one.time other.time) found.rows_are
-          ∙ ap (λ (s : List ℕ). parting.text ++ told.printed ++ ends_text (end_alike left.effect.state right.effect.state) one.ending.items other.ending.items ++ values_text names (flat_map (rows_at (design_of code) first second) found.times) ++ s) stop)));
-      same_is = told.same_is
-          ∙ (ap (λ (b : Bool). told.same_lines && (b && not (has_any rows))) like
-          ∙ ap (λ (l : List ValueDifference). told.same_lines && (end_alike left.effect.state right.effect.state && not (has_any l))) found.rows_are);
+          ∙ (ap (λ (p : List ℕ). p ++ told.printed ++ ends_text told.same_ends one.ending.items other.ending.items ++ values_text names rows ++ earlier_end_text one.time other.time) parted_is
+          ∙ (ap (λ (l : List ValueDifference). parting.text ++ told.printed ++ ends_text told.same_ends one.ending.items other.ending.items ++ values_text names l ++ earlier_end_text one.time other.time) found.rows_are
+          ∙ ap (λ (s : List ℕ). parting.text ++ told.printed ++ ends_text told.same_ends one.ending.items other.ending.items ++ values_text names (flat_map (rows_at (design_of code) first second) found.times) ++ s) stop));
+      same_is = told.same_is ∙ ap (λ (l : List ValueDifference). told.same_lines && (told.same_ends && not (has_any l))) found.rows_are;
     }
 
 -- so on the design of a source
 pub compared_if : {E : Type 0} (r : Result Comparison E) (source : List ℕ) (code : Compiled) (names : SourceNames) (first second : List Entry) → names.source.now ≡ source → names.design.now ≡ code
-    → AreProcesses source names.processes.now → IfOk r (IsCompared names (design_of names.design.now) first second) → IfOk r (IsComparison source code first second)
-compared_if (Ok told) source code names first second is_source is_design are_processes is = record {
+    → names.style ≡ plain_style → AreProcesses source names.processes.now → IfOk r (IsCompared names (design_of names.design.now) first second) → IfOk r (IsComparison source code first second)
+compared_if (Ok told) source code names first second is_source is_design is_plain are_processes is = record {
   names = names;
   source_is = is_source;
   design_is = is_design;
   are_processes = are_processes;
+  style_is = is_plain;
   compared = subst (λ (c : Compiled). IsCompared names (design_of c) first second told) is_design is;
 }
-compared_if (Err e) source code names first second is_source is_design are_processes is = tt
+compared_if (Err e) source code names first second is_source is_design is_plain are_processes is = tt
 
 -- the registers that differ, where the times are those of two journals
 pub rows_if : {V E : Type 0} (items : V → List ValueDifference) (r : Result V E) (design : Design) (first second : List Entry) (last : ℕ) (times : List ℕ) → AreComparedTimes first second last times

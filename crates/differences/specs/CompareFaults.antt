@@ -36,6 +36,6 @@ untold telling.CannotWrite = running.Memory
 untold telling.Memory = running.Memory
 
 -- such a fault as one of two journals
-abbrev pub fault_of : JournalSide → RunFault → CompareFault
-fault_of side (running.Replay fault) = compared.Replay side fault
-fault_of side running.Memory = compared.Memory
+abbrev pub compare_fault_of : JournalSide → RunFault → CompareFault
+compare_fault_of side (running.Replay fault) = compared.Replay side fault
+compare_fault_of side running.Memory = compared.Memory

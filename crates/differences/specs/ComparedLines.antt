@@ -4,7 +4,8 @@ use Rattle.model.specs.declared.entry.Entry.{Entry}
 use Rattle.model.specs.Runs.{has_any}
 use Rattle.explain.specs.declared.phrases.SourceNames.{SourceNames}
 use Rattle.explain.specs.EntryText.{IsEntryLine}
-use Rattle.explain.specs.Phrases.{register_text, value_text}
+use Rattle.explain.specs.EntryLines.{styled_text}
+use Rattle.explain.specs.Phrases.{register_text}
 use Rattle.verdict.specs.RaceLines.{differing_line_text}
 use Rattle.verdict.specs.VerdictLines.{HaveSameLines, IsFirstDifference}
 use Rattle.differences.specs.declared.value_difference.ValueDifference.{ValueDifference}
@@ -17,8 +18,8 @@ title_end true false = codes "; then the second journal ends\n"
 title_end false false = codes "; the journals are the same\n"
 
 -- how many entries two journals have in common, and what comes then
-abbrev pub title_text : ℕ → Bool → Bool → List ℕ
-title_text count first second = codes "common entries: " ++ decimal count ++ title_end first second
+abbrev pub parting_title_text : ℕ → Bool → Bool → List ℕ
+parting_title_text count first second = codes "common entries: " ++ decimal count ++ title_end first second
 
 -- The line of the entry of a journal behind those in common, in words, where there is one.
 abbrev pub IsSideText : SourceNames → List Entry → ℕ → List ℕ → Bool → List ℕ → Type 0
@@ -37,7 +38,7 @@ pub record IsPartingText (names : SourceNames) (first second : List Entry) (coun
   pub is_one : IsSideText names first count (codes "  first: ") (nat_lt count (length first)) one
   pub other : List ℕ
   pub is_other : IsSideText names second count (codes "  second: ") (nat_lt count (length second)) other
-  pub text_is : text ≡ title_text count (nat_lt count (length first)) (nat_lt count (length second)) ++ one ++ other
+  pub text_is : text ≡ parting_title_text count (nat_lt count (length first)) (nat_lt count (length second)) ++ one ++ other
 
 -- that was put behind a text
 pub record PutsParting (names : SourceNames) (first second : List Entry) (count : ℕ) (old new : List ℕ) : Type 0 where
@@ -70,8 +71,8 @@ ends_text false one other = codes "they end differently\n  first: " ++ one ++ co
 -- a register whose values differ
 abbrev pub row_text : SourceNames → ValueDifference → List ℕ
 row_text names d =
-    codes "time " ++ decimal d.time ++ codes "  " ++ register_text names d.register ++ codes "  " ++ value_text d.first ++ codes "  "
-    ++ value_text d.second ++ codes "\n"
+    codes "time " ++ decimal d.time ++ codes "  " ++ register_text names d.register ++ codes "  " ++ styled_text names d.first ++ codes "  "
+    ++ styled_text names d.second ++ codes "\n"
 
 -- so all of them
 abbrev pub row_lines : SourceNames → List ValueDifference → List ℕ
@@ -93,5 +94,5 @@ stop_head one other =
     if nat_lt one other then codes "the first run ends at time " ++ decimal one else codes "the second run ends at time " ++ decimal other
 
 -- where one run ends earlier than the other, and so no later time is compared
-abbrev pub stop_text : ℕ → ℕ → List ℕ
-stop_text one other = if one == other then [] else stop_head one other ++ codes ", and later times aren't compared\n"
+abbrev pub earlier_end_text : ℕ → ℕ → List ℕ
+earlier_end_text one other = if one == other then [] else stop_head one other ++ codes ", and later times aren't compared\n"

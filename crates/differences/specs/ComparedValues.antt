@@ -26,13 +26,13 @@ count_until time [] = 0
 count_until time (e ∷ es) = if goes_past time e then 0 else suc (count_until time es)
 
 -- the values of the registers that some entries leave
-abbrev pub values_after : Option Effect → Store
-values_after (Some e) = e.state.store
-values_after None = []
+abbrev pub store_left : Option Effect → Store
+store_left (Some e) = e.state.store
+store_left None = []
 
 -- the values of the registers in the run of a journal when a time passes
 abbrev pub values_when : Design → List Entry → ℕ → Store
-values_when design journal time = values_after (run design (take (count_until time journal) journal))
+values_when design journal time = store_left (run design (take (count_until time journal) journal))
 
 -- a time that ends in a journal: 0, or one that it advances to
 abbrev pub IsTimeIn : List Entry → ℕ → Type 0
@@ -48,8 +48,8 @@ pub record AreComparedTimes (first second : List Entry) (last : ℕ) (times : Li
   pub all : (time : ℕ) → Contains times time ↔ IsComparedTime first second last time
 
 -- a time, where it isn't past the last one
-abbrev pub up_to : ℕ → ℕ → List ℕ
-up_to last time = if nat_le time last then time ∷ [] else []
+abbrev pub no_later_than : ℕ → ℕ → List ℕ
+no_later_than last time = if nat_le time last then time ∷ [] else []
 
 -- the time that an entry advances to, where that isn't past the last one
 abbrev pub advance_to : ℕ → Entry → List ℕ
@@ -58,7 +58,7 @@ advance_to last (Update number) = []
 advance_to last ActivateInactive = []
 advance_to last ActivateNba = []
 advance_to last ActivateMonitor = []
-advance_to last (Advance time) = up_to last time
+advance_to last (Advance time) = no_later_than last time
 
 -- a register before others, unless its two values are the same
 abbrev pub with_difference : Bool → ValueDifference → List ValueDifference → List ValueDifference

@@ -1,9 +1,9 @@
 //! Two journals, compared.
 
-ghost use Rattle.std.specs.Prelude.{◌≡◌, IfErr, IfOk, OnOk};
+ghost use Rattle.std.specs.Prelude.{◌≡◌, ◌↔◌, IfErr, IfOk, IsTrue, OnOk};
 ghost use Rattle.differences.specs.CompareFaults.{IsCompareFaultOf, IsRunFaultOf};
 ghost use Rattle.differences.specs.ComparedLines.{PutsParting, PutsSide};
-ghost use Rattle.differences.specs.Comparisons.{AreRowsUpTo, IsCompared, IsComparison, PutsTold, alike, same_bool};
+ghost use Rattle.differences.specs.Comparisons.{AreEndsAlike, AreRowsUpTo, IsCompared, IsComparison, PutsTold};
 ghost use Rattle.design.specs.Compiled.{design_of};
 
 use crate::fault::{CompareFault, JournalSide, RunFault};
@@ -14,7 +14,7 @@ use crate::summary::{RunSummary, summary};
 use crate::times::compared_times;
 use crate::value_difference::ValueDifference;
 use design::Design;
-use explain::{SourceNames, push_entry_line};
+use explain::{EntryStyle, SourceNames, push_entry_line};
 use locations::processes;
 use model::entry::Entry;
 use progress::Progress;
@@ -76,20 +76,27 @@ fn push_parting(
     }
 }
 
-// Both or neither.
-fn same_bool(one: bool, other: bool) -> bool
-    ensures { result ≡ same_bool one other }
+// Whether both or neither.
+fn are_same(one: bool, other: bool) -> bool
+    ensures { IsTrue result ↔ (one ≡ other) }
 {
-    if one { other } else { !other }
+    one == other
 }
 
 // Whether two runs end alike.
 fn end_alike(one: &RunSummary, other: &RunSummary) -> bool
-    ensures { result ≡ alike one.now.time one.now.finished one.now.quiet other.now.time other.now.finished other.now.quiet }
+    ensures { IsTrue result ↔ AreEndsAlike one.now.time one.now.finished one.now.quiet other.now.time other.now.finished other.now.quiet }
 {
-    (one.time == other.time)
-        & same_bool(one.finished, other.finished)
-        & (one.finished | same_bool(one.quiet, other.quiet))
+    if one.time != other.time {
+        return false;
+    }
+    if !are_same(one.finished, other.finished) {
+        return false;
+    }
+    if one.finished {
+        return true;
+    }
+    are_same(one.quiet, other.quiet)
 }
 
 // The registers that differ at the times that end in one of two journals and aren't past the end of either run.
@@ -119,7 +126,7 @@ fn push_told(
 {
     let same_lines = push_lines(text, one.lines.as_bytes(), other.lines.as_bytes())?;
     let alike = end_alike(one, other);
-    push_ends(text, alike, &one.ending, &other.ending)?;
+    push_ends(text, alike, one, other)?;
     push_values(text, names, rows)?;
     push_stop(text, one.time, other.time)?;
     Ok(same_lines & (alike & !has_any(rows)))
@@ -181,6 +188,7 @@ pub fn compare<P: Progress>(
         source,
         design,
         processes: &found,
+        style: EntryStyle::plain(),
     };
     compare_by(alloc, &names, first, second, progress)
 }

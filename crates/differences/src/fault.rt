@@ -1,7 +1,7 @@
 //! Why two journals aren't compared.
 
 ghost use Rattle.std.specs.Prelude.{◌≡◌};
-ghost use Rattle.differences.specs.CompareFaults.{fault_of, untold};
+ghost use Rattle.differences.specs.CompareFaults.{compare_fault_of, untold};
 
 use explain::ExplainFault;
 use replay::ReplayFault;
@@ -58,7 +58,7 @@ impl RunFault {
 
     /// As a fault of one of two journals.
     pub(crate) fn of(self, side: JournalSide) -> CompareFault
-        ensures { result ≡ fault_of side self }
+        ensures { result ≡ compare_fault_of side self }
     {
         match self {
             RunFault::Replay(fault) => CompareFault::Replay(side, fault),

@@ -8,7 +8,7 @@ ghost use Rattle.replay.specs.JournalFaults.{IsFaultOf};
 ghost use Rattle.differences.specs.ComparedValues.{count_until, differing, goes_past, rows_at, with_difference};
 ghost use Rattle.model.specs.declared.entry.Entry.{Entry};
 ghost use Rattle.differences.specs.CompareFaults.{IsCompareFaultOf};
-ghost use Rattle.differences.specs.Following.{IsFollowed, IsFollowedSince, IsFollowedTo};
+ghost use Rattle.differences.specs.Following.{IsRunFollowed, IsFollowedSince, IsFollowedTo};
 
 use crate::fault::{CompareFault, JournalSide};
 use crate::value_difference::ValueDifference;
@@ -35,9 +35,9 @@ fn goes_past(entry: Entry, time: u64) -> bool
 
 // Takes entries up to the end of a time: those before the first advance past it.
 fn pass(machine: &mut Machine<'_>, entries: &[Entry], time: u64) -> Result<(), ReplayFault>
-    requires { IsFollowed entries.now machine.old }
+    requires { IsRunFollowed entries.now machine.old }
     ensures code { machine.new.code ≡ machine.old.code }
-    ensures followed { OnOk result (IsFollowed entries.now machine.new) }
+    ensures followed { OnOk result (IsRunFollowed entries.now machine.new) }
     ensures count { OnOk result (machine.new.core.entries ≡ machine.old.core.entries + count_until time (drop machine.old.core.entries entries.now)) }
     ensures fault { IfErr result (IsFaultOf machine.old.code entries.now) }
 {
@@ -95,8 +95,8 @@ fn compare_at(
     second: &[Entry],
     time: u64,
 ) -> Result<(), CompareFault>
-    requires one { IsFollowed first.now one.old }
-    requires other { IsFollowed second.now other.old }
+    requires one { IsRunFollowed first.now one.old }
+    requires other { IsRunFollowed second.now other.old }
     requires code { other.old.code ≡ one.old.code }
     ensures one { OnOk result (IsFollowedTo time first.now one.old one.new) }
     ensures other { OnOk result (IsFollowedTo time second.now other.old other.new) }
@@ -124,20 +124,58 @@ fn compare_at(
     Ok(())
 }
 
-// A machine at the start of the run of one of two journals.
-fn start_side(
+// Two journals, and the times at which their runs are compared.
+#[derive(Clone, Copy)]
+struct ComparedRuns<'a> {
+    first: &'a [Entry],
+    second: &'a [Entry],
+    times: &'a [u64],
+}
+
+// Follows two runs from time to time, each from its start on, and keeps each register whose values differ when a time passes.
+fn follow(
     alloc: Global,
-    design: &Design,
-    side: JournalSide,
-) -> Result<Machine<'_>, CompareFault>
-    ensures code { IfOk result (λ m. m.code ≡ design.now) }
-    ensures followed { (journal : List Entry) (times : List ℕ) → IfOk result (IsFollowedSince journal times 0) }
-    ensures fault { (first second : List Entry) → IfErr result (IsCompareFaultOf design.now first second) }
+    one: &mut Machine<'_>,
+    other: &mut Machine<'_>,
+    runs: ComparedRuns<'_>,
+) -> Result<Vec<ValueDifference>, CompareFault>
+    requires rising { IsStrictlyIncreasing runs.times.now }
+    requires code { other.old.code ≡ one.old.code }
+    requires one { IsFollowedSince runs.first.now runs.times.now 0 one.old }
+    requires other { IsFollowedSince runs.second.now runs.times.now 0 other.old }
+    ensures rows { IfOk result (λ rows. rows.items ≡ flat_map (rows_at (design_of one.old.code) runs.entry.first.now runs.entry.second.now) runs.entry.times.now) }
+    ensures fault { IfErr result (IsCompareFaultOf one.old.code runs.entry.first.now runs.entry.second.now) }
 {
-    match start(alloc, design) {
-        Ok(machine) => Ok(machine),
-        Err(fault) => Err(CompareFault::Replay(side, fault)),
+    let mut rows = Vec::new(alloc);
+    for place in 0..runs.times.len() {
+        let time = runs.times[place];
+        match compare_at(&mut rows, one, other, runs.first, runs.second, time) {
+            Ok(()) => {}
+            Err(fault) => return Err(fault),
+        }
     }
+    Ok(rows)
+}
+
+// Follows the run of the second journal from its start on beside that of the first. It owns this one machine, and leaves by one way once
+// it has it: two of them, or an early return, make a long proof.
+fn follow_beside(
+    alloc: Global,
+    one: &mut Machine<'_>,
+    runs: ComparedRuns<'_>,
+) -> Result<Vec<ValueDifference>, CompareFault>
+    requires rising { IsStrictlyIncreasing runs.times.now }
+    requires one { IsFollowedSince runs.first.now runs.times.now 0 one.old }
+    ensures rows { IfOk result (λ rows. rows.items ≡ flat_map (rows_at (design_of one.old.code) runs.entry.first.now runs.entry.second.now) runs.entry.times.now) }
+    ensures fault { IfErr result (IsCompareFaultOf one.old.code runs.entry.first.now runs.entry.second.now) }
+{
+    let mut other = match start(alloc, one.design()) {
+        Ok(machine) => machine,
+        Err(fault) => return Err(CompareFault::Replay(JournalSide::Second, fault)),
+    };
+    let rows = follow(alloc, one, &mut other, runs);
+    drop(other);
+    rows
 }
 
 /// Each register whose value in one run differs from that in the other when one of these times passes, time by time, and at one time
@@ -153,20 +191,16 @@ pub(crate) fn differing_values(
     ensures rows { IfOk result (λ rows. rows.items ≡ flat_map (rows_at (design_of design.now) first.now second.now) times.now) }
     ensures fault { IfErr result (IsCompareFaultOf design.now first.now second.now) }
 {
-    let mut one = match start_side(alloc, design, JournalSide::First) {
+    let mut one = match start(alloc, design) {
         Ok(machine) => machine,
-        Err(fault) => return Err(fault),
+        Err(fault) => return Err(CompareFault::Replay(JournalSide::First, fault)),
     };
-    let mut other = match start_side(alloc, design, JournalSide::Second) {
-        Ok(machine) => machine,
-        Err(fault) => return Err(fault),
+    let runs = ComparedRuns {
+        first,
+        second,
+        times,
     };
-    let mut rows = Vec::new(alloc);
-    for place in 0..times.len() {
-        match compare_at(&mut rows, &mut one, &mut other, first, second, times[place]) {
-            Ok(()) => {}
-            Err(fault) => return Err(fault),
-        }
-    }
-    Ok(rows)
+    let rows = follow_beside(alloc, &mut one, runs);
+    drop(one);
+    rows
 }

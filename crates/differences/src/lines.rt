@@ -2,10 +2,12 @@
 
 ghost use Rattle.std.specs.Prelude.{◌≡◌, ◌++◌, IfOk, OnOk};
 ghost use Rattle.model.specs.Runs.{has_any};
-ghost use Rattle.differences.specs.ComparedLines.{PutsLinesText, different_text, ends_text, row_lines, row_text, stop_head, stop_text, title_end, title_text, values_text, values_title};
+ghost use Rattle.differences.specs.ComparedLines.{PutsLinesText, different_text, ends_text, row_lines, row_text, stop_head, earlier_end_text, title_end, parting_title_text, values_text, values_title};
 
+use crate::summary::RunSummary;
 use crate::value_difference::ValueDifference;
-use explain::{SourceNames, push_labelled, push_register, push_value};
+use explain::{SourceNames, push_labelled, push_register};
+use literals::push_value;
 use std::alloc::AllocError;
 use verdict::{Difference, first_difference, push_line};
 
@@ -28,7 +30,7 @@ pub(crate) fn push_title(
     first: bool,
     second: bool,
 ) -> Result<(), AllocError>
-    ensures { OnOk result (text.new.items ≡ text.old.items ++ title_text count first second) }
+    ensures { OnOk result (text.new.items ≡ text.old.items ++ parting_title_text count first second) }
 {
     push_labelled(text, b"common entries: ", count as u64)?;
     text.extend_from_slice(title_end(first, second).as_bytes())
@@ -68,18 +70,18 @@ pub(crate) fn push_lines(
 pub(crate) fn push_ends(
     text: &mut Vec<u8>,
     alike: bool,
-    first: &[u8],
-    second: &[u8],
+    one: &RunSummary,
+    other: &RunSummary,
 ) -> Result<(), AllocError>
-    ensures { OnOk result (text.new.items ≡ text.old.items ++ ends_text alike first.now second.now) }
+    ensures { OnOk result (text.new.items ≡ text.old.items ++ ends_text alike one.now.ending.items other.now.ending.items) }
 {
     if alike {
         return text.extend_from_slice(b"they end alike\n");
     }
     text.extend_from_slice(b"they end differently\n  first: ")?;
-    text.extend_from_slice(first)?;
+    text.extend_from_slice(one.ending.as_slice())?;
     text.extend_from_slice(b"  second: ")?;
-    text.extend_from_slice(second)
+    text.extend_from_slice(other.ending.as_slice())
 }
 
 // Puts the line of a register whose values differ behind a text.
@@ -94,9 +96,9 @@ fn push_row(
     text.extend_from_slice(b"  ")?;
     push_register(text, names, row.register)?;
     text.extend_from_slice(b"  ")?;
-    push_value(text, row.first)?;
+    push_value(text, names.style.radix, row.first)?;
     text.extend_from_slice(b"  ")?;
-    push_value(text, row.second)?;
+    push_value(text, names.style.radix, row.second)?;
     text.extend_from_slice(b"\n")
 }
 
@@ -159,7 +161,7 @@ fn push_stop_head(text: &mut Vec<u8>, first: u64, second: u64) -> Result<(), All
 
 /// Puts behind a text where one run ends earlier than the other, and so no later time is compared.
 pub(crate) fn push_stop(text: &mut Vec<u8>, first: u64, second: u64) -> Result<(), AllocError>
-    ensures { OnOk result (text.new.items ≡ text.old.items ++ stop_text first second) }
+    ensures { OnOk result (text.new.items ≡ text.old.items ++ earlier_end_text first second) }
 {
     if first == second {
         return Ok(());

@@ -1,6 +1,6 @@
 //! What the run of a journal comes to.
 
-ghost use Rattle.std.specs.Prelude.{◌≡◌, IfErr, IfOk, length};
+ghost use Rattle.std.specs.Prelude.{◌≡◌, [], IfErr, IfOk, OnOk, length};
 ghost use Rattle.replay.specs.JournalFaults.{IsFaultOf};
 ghost use Rattle.replay.specs.Replays.{IsBehind};
 ghost use Rattle.differences.specs.CompareFaults.{IsRunFaultOf};
@@ -26,45 +26,45 @@ pub(crate) struct RunSummary {
     pub(crate) quiet: bool,
 }
 
-// A machine behind all entries of a journal.
-fn machine_behind<'d, P: Progress>(
-    alloc: Global,
-    design: &'d Design,
+// Takes all entries of a journal, from the start of its run on.
+fn take_all<P: Progress>(
+    machine: &mut Machine<'_>,
     entries: &[Entry],
     progress: &P,
-) -> Result<Machine<'d>, ReplayFault>
-    ensures code { IfOk result (λ m. m.code ≡ design.now) }
-    ensures behind { IfOk result (IsBehind entries.now) }
-    ensures entries { IfOk result (λ m. m.core.entries ≡ length entries.now) }
-    ensures fault { IfErr result (IsFaultOf design.now entries.now) }
+) -> Result<(), ReplayFault>
+    requires start { IsBehind [] machine.old }
+    requires none { machine.old.core.entries ≡ 0 }
+    ensures code { machine.new.code ≡ machine.old.code }
+    ensures behind { OnOk result (IsBehind entries.now machine.new) }
+    ensures entries { OnOk result (machine.new.core.entries ≡ length entries.now) }
+    ensures fault { IfErr result (IsFaultOf machine.old.code entries.now) }
 {
-    let mut machine = match start(alloc, design) {
-        Ok(machine) => machine,
-        Err(fault) => return Err(fault),
-    };
     for at in 0..entries.len() {
-        take_next(&mut machine, entries, at)?;
+        take_next(machine, entries, at)?;
         tell_entries(progress, machine.state().entries(), machine.time());
     }
-    Ok(machine)
+    Ok(())
 }
 
-/// What the run of a journal comes to. `progress` is told how many entries are taken.
-pub(crate) fn summary<P: Progress>(
+// What the run of a journal comes to, by a machine at its start. It only borrows the machine: one that is owned at an early return makes
+// a long proof.
+fn run_summary<P: Progress>(
     alloc: Global,
-    design: &Design,
+    machine: &mut Machine<'_>,
     entries: &[Entry],
     progress: &P,
 ) -> Result<RunSummary, RunFault>
-    ensures summary { IfOk result (IsSummaryOf design.now entries.now) }
-    ensures fault { IfErr result (IsRunFaultOf design.now entries.now) }
+    requires start { IsBehind [] machine.old }
+    requires none { machine.old.core.entries ≡ 0 }
+    ensures summary { IfOk result (IsSummaryOf machine.old.code entries.now) }
+    ensures fault { IfErr result (IsRunFaultOf machine.old.code entries.now) }
 {
-    let mut machine = match machine_behind(alloc, design, entries, progress) {
-        Ok(machine) => machine,
+    match take_all(machine, entries, progress) {
+        Ok(()) => {}
         Err(fault) => return Err(RunFault::Replay(fault)),
-    };
+    }
     let mut ending = Vec::new(alloc);
-    match push_end(alloc, &mut ending, &machine) {
+    match push_end(alloc, &mut ending, machine) {
         Ok(()) => {}
         Err(_) => return Err(RunFault::Memory),
     }
@@ -78,4 +78,23 @@ pub(crate) fn summary<P: Progress>(
         finished,
         quiet,
     })
+}
+
+/// What the run of a journal comes to. `progress` is told how many entries are taken.
+pub(crate) fn summary<P: Progress>(
+    alloc: Global,
+    design: &Design,
+    entries: &[Entry],
+    progress: &P,
+) -> Result<RunSummary, RunFault>
+    ensures summary { IfOk result (IsSummaryOf design.now entries.now) }
+    ensures fault { IfErr result (IsRunFaultOf design.now entries.now) }
+{
+    let mut machine = match start(alloc, design) {
+        Ok(machine) => machine,
+        Err(fault) => return Err(RunFault::Replay(fault)),
+    };
+    let told = run_summary(alloc, &mut machine, entries, progress);
+    drop(machine);
+    told
 }

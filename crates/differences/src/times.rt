@@ -1,14 +1,14 @@
 //! The times at which two runs are compared.
 
 ghost use Rattle.std.specs.Prelude.{◌≡◌, ◌++◌, IfOk, OnOk, flat_map};
-ghost use Rattle.differences.specs.ComparedValues.{advance_to, up_to, AreComparedTimes};
+ghost use Rattle.differences.specs.ComparedValues.{advance_to, no_later_than, AreComparedTimes};
 
 use model::entry::Entry;
 use std::alloc::{AllocError, Global};
 
 // Puts a time behind others, where it isn't past the last one.
 fn push_time(times: &mut Vec<u64>, time: u64, last: u64) -> Result<(), AllocError>
-    ensures { OnOk result (times.new.items ≡ times.old.items ++ up_to last time) }
+    ensures { OnOk result (times.new.items ≡ times.old.items ++ no_later_than last time) }
 {
     if time <= last {
         times.push(time)?;

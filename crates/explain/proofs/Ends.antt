@@ -12,7 +12,7 @@ use Rattle.replay.specs.JournalFaults.{IsFaultOf}
 use Rattle.replay.specs.ReplayBytes.{AreRead, IsReplayFault}
 use Rattle.explain.specs.declared.failure.ExplainFault.{ExplainFault}
 use Rattle.explain.specs.declared.failure.ExplainFault.TheVariants.{Source, Read, Replay, CannotWrite, Memory}
-use Rattle.explain.specs.declared.telling.Window.{Window}
+use Rattle.explain.specs.declared.telling.Presentation.{Presentation}
 use Rattle.explain.specs.declared.telling.ExplanationOptions.{ExplanationOptions}
 use Rattle.explain.specs.ExplainedText.{TellsAll, TellsFault, IsTelling, Explains, ExplainsFault, ExplainsText, ExplainsTextFault}
 use Rattle.explain.specs.Explained.{IsLawfulJournalText, IsOfEntries, IsNoFault, IfExplainSource, IfExplainRead, IfExplainReplay, UnlessExplainBegun}
@@ -79,62 +79,62 @@ pub keeps : (now : Option (List ℕ)) → Keeps now now
 keeps None = tt
 keeps (Some xs) = refl
 
--- by these names and this window
-pub explains_if : {X E : Type 0} (r : Result X E) (source : List ℕ) (code : Compiled) (window : Window) (journal : List Entry) (old new : Option (List ℕ)) (t : ExplanationOptions)
-    → IsTelling source code window t → OnOk r (TellsAll t journal old new) → OnOk r (Explains source code window journal old new)
-explains_if (Ok u) source code window journal old new t is tells = record { telling = t; is_telling = is; tells = tells }
-explains_if (Err e) source code window journal old new t is tells = tt
+-- by these names and this presentation
+pub explains_if : {X E : Type 0} (r : Result X E) (source : List ℕ) (code : Compiled) (presentation : Presentation) (journal : List Entry) (old new : Option (List ℕ)) (t : ExplanationOptions)
+    → IsTelling source code presentation t → OnOk r (TellsAll t journal old new) → OnOk r (Explains source code presentation journal old new)
+explains_if (Ok u) source code presentation journal old new t is tells = record { telling = t; is_telling = is; tells = tells }
+explains_if (Err e) source code presentation journal old new t is tells = tt
 
-pub explains_fault_if : {X : Type 0} (r : Result X ExplainFault) (source : List ℕ) (code : Compiled) (window : Window) (journal : List Entry) (old new : Option (List ℕ)) (t : ExplanationOptions)
-    → IsTelling source code window t → IfExplainReplay r (TellsFault t journal old new) → IfExplainReplay r (ExplainsFault source code window journal old new)
-explains_fault_if (Ok u) source code window journal old new t is tells = tt
-explains_fault_if (Err (Source f)) source code window journal old new t is tells = tt
-explains_fault_if (Err (Read f)) source code window journal old new t is tells = tt
-explains_fault_if (Err (Replay f)) source code window journal old new t is tells = record { telling = t; is_telling = is; tells = tells }
-explains_fault_if (Err CannotWrite) source code window journal old new t is tells = tt
-explains_fault_if (Err Memory) source code window journal old new t is tells = tt
+pub explains_fault_if : {X : Type 0} (r : Result X ExplainFault) (source : List ℕ) (code : Compiled) (presentation : Presentation) (journal : List Entry) (old new : Option (List ℕ)) (t : ExplanationOptions)
+    → IsTelling source code presentation t → IfExplainReplay r (TellsFault t journal old new) → IfExplainReplay r (ExplainsFault source code presentation journal old new)
+explains_fault_if (Ok u) source code presentation journal old new t is tells = tt
+explains_fault_if (Err (Source f)) source code presentation journal old new t is tells = tt
+explains_fault_if (Err (Read f)) source code presentation journal old new t is tells = tt
+explains_fault_if (Err (Replay f)) source code presentation journal old new t is tells = record { telling = t; is_telling = is; tells = tells }
+explains_fault_if (Err CannotWrite) source code presentation journal old new t is tells = tt
+explains_fault_if (Err Memory) source code presentation journal old new t is tells = tt
 
 -- on the design of the source
-pub text_if : {X E : Type 0} (r : Result X E) (source : List ℕ) (code : Compiled) (window : Window) (journal : List Entry) (left old new : Option (List ℕ))
-    → AreRead source left code journal → OnOk r (Explains source code window journal old new) → OnOk r (ExplainsText source window left old new)
-text_if (Ok u) source code window journal left old new read explains = record { design = code; journal = journal; are_read = read; explains = explains }
-text_if (Err e) source code window journal left old new read explains = tt
+pub text_if : {X E : Type 0} (r : Result X E) (source : List ℕ) (code : Compiled) (presentation : Presentation) (journal : List Entry) (left old new : Option (List ℕ))
+    → AreRead source left code journal → OnOk r (Explains source code presentation journal old new) → OnOk r (ExplainsText source presentation left old new)
+text_if (Ok u) source code presentation journal left old new read explains = record { design = code; journal = journal; are_read = read; explains = explains }
+text_if (Err e) source code presentation journal left old new read explains = tt
 
-pub text_fault_if : {X : Type 0} (r : Result X ExplainFault) (source : List ℕ) (code : Compiled) (window : Window) (journal : List Entry) (left old new : Option (List ℕ))
-    → AreRead source left code journal → IfExplainReplay r (ExplainsFault source code window journal old new) → IfExplainReplay r (ExplainsTextFault source window left old new)
-text_fault_if (Ok u) source code window journal left old new read explains = tt
-text_fault_if (Err (Source f)) source code window journal left old new read explains = tt
-text_fault_if (Err (Read f)) source code window journal left old new read explains = tt
-text_fault_if (Err (Replay f)) source code window journal left old new read explains = record { design = code; journal = journal; are_read = read; explains = explains }
-text_fault_if (Err CannotWrite) source code window journal left old new read explains = tt
-text_fault_if (Err Memory) source code window journal left old new read explains = tt
+pub text_fault_if : {X : Type 0} (r : Result X ExplainFault) (source : List ℕ) (code : Compiled) (presentation : Presentation) (journal : List Entry) (left old new : Option (List ℕ))
+    → AreRead source left code journal → IfExplainReplay r (ExplainsFault source code presentation journal old new) → IfExplainReplay r (ExplainsTextFault source presentation left old new)
+text_fault_if (Ok u) source code presentation journal left old new read explains = tt
+text_fault_if (Err (Source f)) source code presentation journal left old new read explains = tt
+text_fault_if (Err (Read f)) source code presentation journal left old new read explains = tt
+text_fault_if (Err (Replay f)) source code presentation journal left old new read explains = record { design = code; journal = journal; are_read = read; explains = explains }
+text_fault_if (Err CannotWrite) source code presentation journal left old new read explains = tt
+text_fault_if (Err Memory) source code presentation journal left old new read explains = tt
 
 -- a journal that is told to its end is lawful
 lawful : (code : Compiled) (journal : List Entry) (e : Effect) → run (design_of code) journal ≡ Some e → IsLawful (design_of code) journal
 lawful code journal e ran = subst (λ (o : Option Effect). IsSome o) (sym ran) refl
 
-pub lawful_if : {X E : Type 0} (r : Result X E) (source : List ℕ) (code : Compiled) (window : Window) (journal : List Entry) (left old new : Option (List ℕ))
-    → AreRead source left code journal → OnOk r (Explains source code window journal old new) → OnOk r (IsLawfulJournalText source left)
-lawful_if (Ok u) source code window journal left old new read explains = record {
+pub lawful_if : {X E : Type 0} (r : Result X E) (source : List ℕ) (code : Compiled) (presentation : Presentation) (journal : List Entry) (left old new : Option (List ℕ))
+    → AreRead source left code journal → OnOk r (Explains source code presentation journal old new) → OnOk r (IsLawfulJournalText source left)
+lawful_if (Ok u) source code presentation journal left old new read explains = record {
   design = code;
   journal = journal;
   are_read = read;
   lawful = lawful code journal explains.tells.effect
       (ap (λ (c : Compiled). run (design_of c) journal) (sym explains.is_telling.design_is) ∙ explains.tells.is_run);
 }
-lawful_if (Err e) source code window journal left old new read explains = tt
+lawful_if (Err e) source code presentation journal left old new read explains = tt
 
 -- a fault that is told is one of the journal
-pub replay_if : {X : Type 0} (r : Result X ExplainFault) (source : List ℕ) (code : Compiled) (window : Window) (journal : List Entry) (left old new : Option (List ℕ))
-    → AreRead source left code journal → IfExplainReplay r (ExplainsFault source code window journal old new) → IfExplainReplay r (IsReplayFault source left)
-replay_if (Ok u) source code window journal left old new read explains = tt
-replay_if (Err (Source f)) source code window journal left old new read explains = tt
-replay_if (Err (Read f)) source code window journal left old new read explains = tt
-replay_if (Err (Replay f)) source code window journal left old new read explains = record {
+pub replay_if : {X : Type 0} (r : Result X ExplainFault) (source : List ℕ) (code : Compiled) (presentation : Presentation) (journal : List Entry) (left old new : Option (List ℕ))
+    → AreRead source left code journal → IfExplainReplay r (ExplainsFault source code presentation journal old new) → IfExplainReplay r (IsReplayFault source left)
+replay_if (Ok u) source code presentation journal left old new read explains = tt
+replay_if (Err (Source f)) source code presentation journal left old new read explains = tt
+replay_if (Err (Read f)) source code presentation journal left old new read explains = tt
+replay_if (Err (Replay f)) source code presentation journal left old new read explains = record {
   design = code;
   journal = journal;
   are_read = read;
   is_fault = subst (λ (c : Compiled). IsFaultOf c journal f) explains.is_telling.design_is explains.tells.is_fault;
 }
-replay_if (Err CannotWrite) source code window journal left old new read explains = tt
-replay_if (Err Memory) source code window journal left old new read explains = tt
+replay_if (Err CannotWrite) source code presentation journal left old new read explains = tt
+replay_if (Err Memory) source code presentation journal left old new read explains = tt

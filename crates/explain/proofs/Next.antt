@@ -1,15 +1,32 @@
 -- A journal goes on by one entry more, or stops at it.
-use Rattle.std.proofs.Common.{◌≡◌, ℕ, suc, ◌+◌, ◌<◌, List, [], ◌∷◌, ◌++◌, length, take, refl, sym, ◌∙◌, ap, subst, arith}
-use Rattle.std.specs.Prelude.{slice_index_or}
+use Rattle.std.proofs.Common.{◌≡◌, ℕ, suc, ◌+◌, ◌<◌, List, [], ◌∷◌, ◌++◌, length, take, Option, Some, refl, sym, ◌∙◌, ap, subst, arith}
+use Rattle.std.specs.Prelude.{option_and_then, slice_index_or, unwrap_or}
 use Rattle.std.proofs.Math.Seq.{take-suc}
 use Rattle.model.specs.declared.entry.Entry.{Entry}
 use Rattle.regions.specs.declared.machine.TakeFault.{TakeFault}
 use Rattle.regions.specs.declared.machine.TakeFault.TheVariants.{Refused, TooLong, TooMany, ApplyMemory, Memory}
-use Rattle.regions.specs.Machine.{MachineView, IsNotTaken}
+use Rattle.model.specs.Design.{Design}
+use Rattle.model.specs.States.{start}
+use Rattle.model.specs.Runs.{Effect, joined, run, run_from, silent}
+use Rattle.model.proofs.RunLaws.{run_from-append}
+use Rattle.design.specs.Compiled.{Compiled, design_of}
+use Rattle.regions.specs.Machine.{MachineView, state_at, IsNotTaken}
 use Rattle.replay.specs.Replays as replays
 use Rattle.replay.specs.JournalFaults.{IsCauseOf, cause_of}
 use Rattle.replay.proofs.Runs.{next_fault}
 use Rattle.steps.specs.ExplainerStanding.{Standing, IsExplainerBehind, IsExplained}
+
+-- behind a lawful journal the machine stands where the entry's step comes to
+pub stands_there : (journal : List Entry) (entry : Entry) (old new : Standing) (told : IsExplained journal entry old new) → new.position.code ≡ old.position.code → told.effect.state ≡ state_at new.position
+stands_there journal entry old new told same =
+    let design : Design = design_of old.position.code in
+    let more : run design (journal ++ entry ∷ []) ≡ Some (joined told.before told.effect) =
+    run_from-append design (silent (start design)) journal (entry ∷ [])
+    ∙ (ap (option_and_then (λ g. run_from design g (entry ∷ []))) told.is_run
+    ∙ ap (option_and_then (λ g. run_from design (joined told.before g) [])) told.told.is_step) in
+    let ran : run design (journal ++ entry ∷ []) ≡ Some told.behind.effect = ap (λ (c : Compiled). run (design_of c) (journal ++ entry ∷ [])) (sym same) ∙ told.behind.is_run in
+    let one : joined told.before told.effect ≡ told.behind.effect = ap (λ (o : Option Effect). unwrap_or o told.behind.effect) (sym more ∙ ran) in
+    ap (λ (e : Effect). e.state) one ∙ told.behind.state_is
 
 -- one entry more
 pub next_behind : (journal : List Entry) (at : ℕ) (d : Entry) (old new : Standing) → at < length journal → IsExplainerBehind (take at journal) old

@@ -5,10 +5,6 @@ use Rattle.std.proofs.Math.Seq.{drop-cons}
 use Rattle.model.specs.States.{Event}
 use Rattle.explain.specs.declared.phrases.SourceNames.{SourceNames}
 use Rattle.explain.specs.ExplainedEnd.{due_text, event_text, future_lines, region_lines}
-use Rattle.logic4.specs.Vector.{Vector}
-use Rattle.logic4.specs.Operators.{select_digit}
-use Rattle.logic4.specs.Display.{binary_text, digit_text}
-use Rattle.logic4.proofs.Texts.{binary_step}
 
 -- a piece and what is left, behind a text that has the piece
 pub moved : {A : Type 0} (old new text piece rest : List A) → new ≡ text ++ piece → text ++ (piece ++ rest) ≡ old → new ++ rest ≡ old
@@ -22,13 +18,6 @@ joined new old a mid b h k = h ∙ (ap (λ w. w ++ b) k ∙ append_assoc old a b
 pub joined_last : {X E : Type 0} (r : Result X E) (new old a mid b : List ℕ) → new ≡ (if is_ok r then mid ++ b else mid) → mid ≡ old ++ a → OnOk r (new ≡ old ++ (a ++ b))
 joined_last (Ok x) new old a mid b h k = joined new old a mid b h k
 joined_last (Err x) new old a mid b h k = tt
-
--- one digit more
-pub digit_more : (old mid new digit : List ℕ) (v : Vector) (i : ℕ) → i < length v → mid ≡ old ++ binary_text (drop (i + 1) v) → digit ≡ digit_text (select_digit v i) → new ≡ mid ++ digit
-    → new ≡ old ++ binary_text (drop i v)
-digit_more old mid new digit v i inside h is put =
-    joined new old (binary_text (drop (i + 1) v)) mid (digit_text (select_digit v i)) (put ∙ ap (λ (d : List ℕ). mid ++ d) is) h
-    ∙ ap (λ (t : List ℕ). old ++ t) (binary_step v i inside)
 
 -- the element at a place, and what is left behind it
 drop_here : {A : Type 0} (l : List A) (i : ℕ) (x : A) → i < length l → x ≡ slice_index_or l i x → drop i l ≡ x ∷ drop (i + 1) l

@@ -1,5 +1,5 @@
 -- Entries that are told one after another, while their text is written.
-use Rattle.std.proofs.Common.{◌≡◌, ◌∙◌, ap, sym, refl, subst, ℕ, suc, ◌+◌, ◌<◌, List, [], ◌∷◌, ◌++◌, length, take, append_assoc, Option, Some, None, Result, Ok, Err, OnOk, arith}
+use Rattle.std.proofs.Common.{Bool, ◌≡◌, ◌∙◌, ap, sym, refl, subst, ℕ, suc, ◌+◌, ◌<◌, List, [], ◌∷◌, ◌++◌, length, take, append_assoc, Option, Some, None, Result, Ok, Err, OnOk, arith}
 use Rattle.std.specs.Prelude.{slice_get, slice_index_or}
 use Rattle.std.specs.Io.KnownBytes.{Appends}
 use Rattle.std.proofs.lemmas.List.{append-nil}
@@ -21,7 +21,7 @@ use Rattle.explain.specs.ExplainedEnd.{AreNext, IsEndText, PutsEnd, end_text, re
 use Rattle.explain.specs.ExplainedText.{told_design, told_text, IsExplainedEntry, AreEntryTexts, TellsAll, TellsFault}
 use Rattle.explain.specs.Sent.{IsNextTold, IsToldTo, IsStoppedAt, SendsEnd}
 use Rattle.explain.specs.Explained.{IsFaultOfEntries, IfExplainReplay}
-use Rattle.explain.proofs.Next.{next_behind}
+use Rattle.explain.proofs.Next.{next_behind, stands_there}
 
 -- nothing was written
 pub appends_none : (now : Option (List ℕ)) → Appends now now []
@@ -80,7 +80,7 @@ same_entry journal at d entry inside there =
 
 -- the text of the entry that was told
 entry_told : (t : ExplanationOptions) (journal : List Entry) (at : ℕ) (old new : Standing) (line : List ℕ) → old.position.code ≡ t.names.design.now
-    → (next : IsNextTold journal at old new) → line ≡ told_text t (at + 1) next.entry new.account → IsExplainedEntry t journal at line
+    → (next : IsNextTold journal at old new) → line ≡ told_text t (at + 1) next.entry new.account next.told.effect.state.finished → IsExplainedEntry t journal at line
 entry_told t journal at old new line code next is = record {
   entry = next.entry;
   there = next.there;
@@ -101,13 +101,16 @@ texts_more t journal at texts line before one =
 -- one entry more is told
 pub told_more : (t : ExplanationOptions) (journal : List Entry) (at : ℕ) (d : Entry) (old new : Standing) (start now : Option (List ℕ)) (text text' : List ℕ) → at < length journal
     → IsNextTold journal at old new → new.position.code ≡ old.position.code
-    → text' ≡ text ++ told_text t new.position.core.entries (slice_index_or journal at d) new.account
+    → text' ≡ text ++ told_text t new.position.core.entries (slice_index_or journal at d) new.account new.position.core.finished
     → IsToldTo t journal at old start now text → IsToldTo t journal (at + 1) new start now text'
 told_more t journal at d old new start now text text' inside next same put to =
-    let line : List ℕ = told_text t new.position.core.entries (slice_index_or journal at d) new.account in
+    let finished : Bool = new.position.core.finished in
+    let line : List ℕ = told_text t new.position.core.entries (slice_index_or journal at d) new.account finished in
     let entry_is : slice_index_or journal at d ≡ next.entry = same_entry journal at d next.entry inside next.there in
-    let is : line ≡ told_text t (at + 1) next.entry new.account =
-    ap (λ (n : ℕ). told_text t n (slice_index_or journal at d) new.account) next.count ∙ ap (λ (e : Entry). told_text t (at + 1) e new.account) entry_is in
+    let is : line ≡ told_text t (at + 1) next.entry new.account next.told.effect.state.finished =
+    ap (λ (n : ℕ). told_text t n (slice_index_or journal at d) new.account finished) next.count
+    ∙ (ap (λ (e : Entry). told_text t (at + 1) e new.account finished) entry_is
+    ∙ ap (λ (s : State). told_text t (at + 1) next.entry new.account s.finished) (sym (stands_there (take at journal) next.entry old new next.told same))) in
     let so_far = to.so_far in
     record {
       code = same ∙ to.code;

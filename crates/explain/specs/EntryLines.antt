@@ -5,13 +5,16 @@ use Rattle.model.specs.declared.entry.Entry.{Entry}
 use Rattle.model.specs.declared.entry.Entry.TheVariants as entries
 use Rattle.model.specs.Runs.{has_any}
 use Rattle.turn.specs.declared.log.Nba.{Nba}
+use Rattle.explain.specs.declared.phrases.EntryStyle.{EntryStyle}
 use Rattle.explain.specs.declared.phrases.SourceNames.{SourceNames}
 use Rattle.steps.specs.declared.entry_account.Reading.{Reading}
 use Rattle.steps.specs.declared.entry_account.Changed.{Changed}
 use Rattle.steps.specs.declared.entry_account.EntryActor.{EntryActor}
 use Rattle.steps.specs.declared.entry_account.EntryActor.TheVariants as actors
 use Rattle.steps.specs.Accounts.{Account}
-use Rattle.explain.specs.Phrases.{value_text, quoted_text, register_text, process_text}
+use Rattle.literals.specs.declared.literal.Radix.TheVariants.{Binary}
+use Rattle.literals.specs.Literals.{value_text}
+use Rattle.explain.specs.Phrases.{quoted_text, register_text, process_text}
 
 -- the delimiter before the first part of a kind: a semicolon behind another kind, else a colon
 abbrev pub delimiter : Bool → List ℕ
@@ -22,18 +25,31 @@ delimiter false = codes ": "
 abbrev pub lead : ℕ → Bool → List ℕ → List ℕ
 lead place behind word = if place == 0 then delimiter behind ++ word else codes ", "
 
+-- binary values, and no versions
+abbrev pub plain_style : EntryStyle
+plain_style = record { radix = Binary; versions = false }
+
+-- a value, as the style has it
+abbrev pub styled_text : SourceNames → Vector → List ℕ
+styled_text names v = value_text names.style.radix v
+
+-- the version of a read, where the style has it
+abbrev pub version_text : Bool → ℕ → List ℕ
+version_text true version = codes " (version " ++ decimal version ++ codes ")"
+version_text false version = []
+
 -- a register that is read
 abbrev pub reading_text : SourceNames → Reading → List ℕ
 reading_text names r =
-    register_text names r.register ++ codes "=" ++ value_text r.value ++ codes " (version " ++ decimal r.version ++ codes ")"
+    register_text names r.register ++ codes "=" ++ styled_text names r.value ++ version_text names.style.versions r.version
 
 -- a change
 abbrev pub change_text : SourceNames → Changed → List ℕ
-change_text names c = register_text names c.register ++ codes " " ++ value_text c.before ++ codes " -> " ++ value_text c.after
+change_text names c = register_text names c.register ++ codes " " ++ styled_text names c.before ++ codes " -> " ++ styled_text names c.after
 
 -- a nonblocking assignment
 abbrev pub assignment_text : SourceNames → Nba → List ℕ
-assignment_text names n = register_text names n.reg ++ codes " <= " ++ value_text n.value ++ codes " for time " ++ decimal n.due
+assignment_text names n = register_text names n.reg ++ codes " <= " ++ styled_text names n.value ++ codes " for time " ++ decimal n.due
 
 -- the parts of a kind, from a place on
 abbrev pub list_text : {A : Type 0} → (A → List ℕ) → List ℕ → Bool → ℕ → List A → List ℕ
@@ -47,7 +63,7 @@ printed_text behind (byte ∷ bytes) = delimiter behind ++ codes "prints " ++ qu
 
 -- an update
 abbrev pub update_text : SourceNames → ℕ → Vector → List ℕ
-update_text names r v = codes "update of " ++ register_text names r ++ codes " to " ++ value_text v
+update_text names r v = codes "update of " ++ register_text names r ++ codes " to " ++ styled_text names v
 
 -- a change of the regions
 abbrev pub region_text : Entry → List ℕ
@@ -64,15 +80,21 @@ actor_text names entry (actors.Turn p) = codes "active  turn of " ++ process_tex
 actor_text names entry (actors.Update r v) = codes "active  " ++ update_text names r v
 actor_text names entry actors.Regions = region_text entry
 
--- what is read, changed, assigned and printed
-abbrev pub parts_text : SourceNames → Account → List ℕ
-parts_text names a =
+-- that the run is finished
+abbrev pub finish_text : Bool → Bool → List ℕ
+finish_text behind true = delimiter behind ++ codes "calls $finish"
+finish_text behind false = []
+
+-- what is read, changed, assigned and printed, and whether the run is finished
+abbrev pub parts_text : SourceNames → Account → Bool → List ℕ
+parts_text names a finishes =
     list_text (reading_text names) (codes "reads ") false 0 a.reads
     ++ list_text (change_text names) (codes "writes ") (has_any a.reads) 0 a.changes
     ++ list_text (assignment_text names) (codes "assigns ") (has_any a.reads || has_any a.changes) 0 a.assigned
     ++ printed_text (has_any a.reads || has_any a.changes || has_any a.assigned) a.lines
+    ++ finish_text (has_any a.reads || has_any a.changes || has_any a.assigned || has_any a.lines) finishes
 
--- the line of an entry: its number, the time, who does it, and what it reads, changes, assigns and prints
-abbrev pub entry_account_text : SourceNames → ℕ → Entry → Account → List ℕ
-entry_account_text names number entry a =
-    decimal number ++ codes "  time " ++ decimal a.time ++ codes "  " ++ actor_text names entry a.actor ++ parts_text names a ++ codes "\n"
+-- the line of an entry: its number, the time, who does it, what it reads, changes, assigns and prints, and whether it finishes the run
+abbrev pub entry_account_text : SourceNames → ℕ → Entry → Account → Bool → List ℕ
+entry_account_text names number entry a finishes =
+    decimal number ++ codes "  time " ++ decimal a.time ++ codes "  " ++ actor_text names entry a.actor ++ parts_text names a finishes ++ codes "\n"

@@ -17,7 +17,7 @@ pub record IsEntryLine (names : SourceNames) (journal : List Entry) (place : ℕ
   pub effect : Effect
   pub account : Account
   pub told : IsAccountOf (design_of names.design.now) before entry effect account
-  pub text_is : text ≡ entry_account_text names (place + 1) entry account
+  pub text_is : text ≡ entry_account_text names (place + 1) entry account effect.state.finished
 
 -- it was put behind a text
 pub record PutsEntryLine (names : SourceNames) (journal : List Entry) (place : ℕ) (old new : List ℕ) : Type 0 where

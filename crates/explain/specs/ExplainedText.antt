@@ -10,7 +10,8 @@ use Rattle.replay.specs.declared.fault.ReplayFault.{ReplayFault}
 use Rattle.replay.specs.ReplayBytes.{AreRead}
 use Rattle.replay.specs.JournalFaults.{IsFaultOf}
 use Rattle.explain.specs.declared.telling.ExplanationOptions.{ExplanationOptions}
-use Rattle.explain.specs.declared.telling.Window.{Window}
+use Rattle.explain.specs.declared.phrases.EntryStyle.{EntryStyle}
+use Rattle.explain.specs.declared.telling.Presentation.{Presentation}
 use Rattle.steps.specs.Accounts.{Account, IsAccountOf}
 use Rattle.explain.specs.EntryLines.{entry_account_text}
 use Rattle.explain.specs.ExplainedEnd.{IsEndText, refusal_text}
@@ -19,22 +20,22 @@ use Rattle.explain.specs.ExplainedEnd.{IsEndText, refusal_text}
 abbrev pub told_design : ExplanationOptions → Design
 told_design t = design_of t.names.design.now
 
--- which entries are told: from this one on, to this one or the last that there may be
-abbrev pub window_of : ℕ → Option ℕ → Window
-window_of from to = record { from = from; to = unwrap_or to 18446744073709551615 }
+-- how a journal is told: from this entry on, to this one or the last that there may be, in this style
+abbrev pub presentation_of : ℕ → Option ℕ → EntryStyle → Presentation
+presentation_of from to style = record { from = from; to = unwrap_or to 18446744073709551615; style = style }
 
--- whether a window has an entry with this number
-abbrev pub has_entry : Window → ℕ → Bool
-has_entry window number = nat_le window.from number && nat_le number window.to
+-- whether a presentation has an entry with this number
+abbrev pub has_entry : Presentation → ℕ → Bool
+has_entry presentation number = nat_le presentation.from number && nat_le number presentation.to
 
 -- a line, where it is shown
 abbrev pub shown_text : Bool → List ℕ → List ℕ
 shown_text true line = line
 shown_text false line = []
 
--- the line of an entry, where the window has it
-abbrev pub told_text : ExplanationOptions → ℕ → Entry → Account → List ℕ
-told_text t number entry a = shown_text (has_entry t.window number) (entry_account_text t.names number entry a)
+-- the line of an entry, where the presentation has it
+abbrev pub told_text : ExplanationOptions → ℕ → Entry → Account → Bool → List ℕ
+told_text t number entry a finishes = shown_text (has_entry t.presentation number) (entry_account_text t.names number entry a finishes)
 
 -- This is told of the entry at a place of a journal: by what comes of its step behind those before it.
 pub record IsExplainedEntry (t : ExplanationOptions) (journal : List Entry) (at : ℕ) (text : List ℕ) : Type 0 where
@@ -45,7 +46,7 @@ pub record IsExplainedEntry (t : ExplanationOptions) (journal : List Entry) (at 
   pub effect : Effect
   pub account : Account
   pub told : IsAccountOf (told_design t) before entry effect account
-  pub text_is : text ≡ told_text t (at + 1) entry account
+  pub text_is : text ≡ told_text t (at + 1) entry account effect.state.finished
 
 -- These are the texts of so many entries of a journal, one after another.
 abbrev pub AreEntryTexts : ExplanationOptions → List Entry → ℕ → List ℕ → Type 0
@@ -74,35 +75,36 @@ pub record TellsFault (t : ExplanationOptions) (journal : List Entry) (old new :
   pub are_lines : AreEntryTexts t journal before lines
   pub grown : Appends old new (lines ++ refusal_text t.names effect.state fault)
 
--- what is told is of this design, by the processes of its source, and of this window
-pub record IsTelling (source : List ℕ) (code : Compiled) (window : Window) (t : ExplanationOptions) : Type 0 where
+-- what is told is of this design, by the processes of its source, and of this presentation
+pub record IsTelling (source : List ℕ) (code : Compiled) (presentation : Presentation) (t : ExplanationOptions) : Type 0 where
   pub source_is : t.names.source.now ≡ source
   pub design_is : t.names.design.now ≡ code
   pub are_processes : AreProcesses source t.names.processes.now
-  pub window_is : t.window ≡ window
+  pub presentation_is : t.presentation ≡ presentation
+  pub style_is : t.names.style ≡ presentation.style
 
 -- so a journal was told to its end
-pub record Explains (source : List ℕ) (code : Compiled) (window : Window) (journal : List Entry) (old new : Option (List ℕ)) : Type 0 where
+pub record Explains (source : List ℕ) (code : Compiled) (presentation : Presentation) (journal : List Entry) (old new : Option (List ℕ)) : Type 0 where
   pub telling : ExplanationOptions
-  pub is_telling : IsTelling source code window telling
+  pub is_telling : IsTelling source code presentation telling
   pub tells : TellsAll telling journal old new
 
 -- so it was told up to its fault
-pub record ExplainsFault (source : List ℕ) (code : Compiled) (window : Window) (journal : List Entry) (old new : Option (List ℕ)) (fault : ReplayFault) : Type 0 where
+pub record ExplainsFault (source : List ℕ) (code : Compiled) (presentation : Presentation) (journal : List Entry) (old new : Option (List ℕ)) (fault : ReplayFault) : Type 0 where
   pub telling : ExplanationOptions
-  pub is_telling : IsTelling source code window telling
+  pub is_telling : IsTelling source code presentation telling
   pub tells : TellsFault telling journal old new fault
 
 -- the journal that was left to read was told to its end, on the design of the source
-pub record ExplainsText (source : List ℕ) (window : Window) (left old new : Option (List ℕ)) : Type 0 where
+pub record ExplainsText (source : List ℕ) (presentation : Presentation) (left old new : Option (List ℕ)) : Type 0 where
   pub design : Compiled
   pub journal : List Entry
   pub are_read : AreRead source left design journal
-  pub explains : Explains source design window journal old new
+  pub explains : Explains source design presentation journal old new
 
 -- the journal that was left to read was told up to its fault, on the design of the source
-pub record ExplainsTextFault (source : List ℕ) (window : Window) (left old new : Option (List ℕ)) (fault : ReplayFault) : Type 0 where
+pub record ExplainsTextFault (source : List ℕ) (presentation : Presentation) (left old new : Option (List ℕ)) (fault : ReplayFault) : Type 0 where
   pub design : Compiled
   pub journal : List Entry
   pub are_read : AreRead source left design journal
-  pub explains : ExplainsFault source design window journal old new fault
+  pub explains : ExplainsFault source design presentation journal old new fault

@@ -1,18 +1,8 @@
--- The parts of the lines: values, names and quoted text.
-use Rattle.std.specs.Prelude.{ℕ, ◌==◌, Bool, true, false, nat_lt, if◌then◌else◌, List, [], ◌∷◌, ◌++◌, length, slice_get, Option, Some, None, codes, decimal}
-use Rattle.logic4.specs.Vector.{Vector}
-use Rattle.logic4.specs.Display.{binary_text}
+-- The parts of the lines: names and quoted text.
+use Rattle.std.specs.Prelude.{ℕ, ◌==◌, Bool, true, false, if◌then◌else◌, List, [], ◌∷◌, ◌++◌, slice_get, Option, Some, None, codes, decimal}
 use Rattle.model.specs.Syntax.{Text}
 use Rattle.locations.specs.declared.location.ProcessLocation.{ProcessLocation}
 use Rattle.explain.specs.declared.phrases.SourceNames.{SourceNames}
-
--- the size of a literal, of one digit none
-abbrev pub size_text : ℕ → List ℕ
-size_text width = if nat_lt 1 width then decimal width ++ codes "'b" else []
-
--- a value: one digit alone, and more of them as a sized binary literal (3.5.1)
-abbrev pub value_text : Vector → List ℕ
-value_text v = size_text (length v) ++ binary_text v
 
 -- a byte of a printed text as it stands in a string (3.6)
 abbrev pub escaped : ℕ → List ℕ

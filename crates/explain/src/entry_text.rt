@@ -52,13 +52,7 @@ fn push_next(
         Ok(()) => {}
         Err(fault) => return Err(fault),
     }
-    match push_entry(
-        text,
-        names,
-        place as u64 + 1,
-        entries[place],
-        explainer.told(),
-    ) {
+    match push_entry(text, names, explainer, entries[place]) {
         Ok(()) => Ok(()),
         Err(_) => Err(ExplainFault::Memory),
     }

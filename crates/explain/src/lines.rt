@@ -2,18 +2,19 @@
 
 ghost use Rattle.std.specs.Prelude.{◌≡◌, ◌++◌, OnOk, codes};
 ghost use Rattle.model.specs.Runs.{has_any};
-ghost use Rattle.explain.specs.Phrases.{quoted_text, register_text, value_text};
+ghost use Rattle.explain.specs.Phrases.{quoted_text, register_text};
 ghost use Rattle.steps.specs.Accounts.{account_of};
-ghost use Rattle.explain.specs.EntryLines.{assignment_text, change_text, actor_text, entry_account_text, lead, list_text, delimiter, parts_text, printed_text, reading_text, region_text, update_text};
+ghost use Rattle.explain.specs.EntryLines.{assignment_text, change_text, actor_text, entry_account_text, finish_text, lead, list_text, delimiter, parts_text, printed_text, reading_text, region_text, styled_text, update_text, version_text};
 
 use crate::phrases::{
-    SourceNames, push_labelled, push_number, push_process, push_quoted, push_register, push_value,
+    SourceNames, push_labelled, push_number, push_process, push_quoted, push_register,
 };
 use design::RegId;
+use literals::push_value;
 use logic4::bits::Bits;
 use model::entry::Entry;
 use std::alloc::AllocError;
-use steps::{Changed, EntryAccount, EntryActor, Reading};
+use steps::{Changed, EntryAccount, EntryActor, Explainer, Reading};
 use turn::Nba;
 
 // The delimiter before the first part of a kind.
@@ -45,11 +46,22 @@ fn push_valued(
     delimiter: &[u8],
     value: Bits,
 ) -> Result<(), AllocError>
-    ensures { OnOk result (text.new.items ≡ text.old.items ++ (register_text names.entry.now register ++ (delimiter.now ++ value_text value))) }
+    ensures { OnOk result (text.new.items ≡ text.old.items ++ (register_text names.entry.now register ++ (delimiter.now ++ styled_text names.entry.now value))) }
 {
     push_register(text, names, register)?;
     text.extend_from_slice(delimiter)?;
-    push_value(text, value)
+    push_value(text, names.style.radix, value)
+}
+
+// Puts the version of a read behind a text, in parentheses, where the style has it.
+fn push_version(text: &mut Vec<u8>, shown: bool, version: u64) -> Result<(), AllocError>
+    ensures { OnOk result (text.new.items ≡ text.old.items ++ version_text shown version) }
+{
+    if !shown {
+        return Ok(());
+    }
+    push_labelled(text, b" (version ", version)?;
+    text.extend_from_slice(b")")
 }
 
 /// What a line has a list of.
@@ -68,11 +80,10 @@ trait ListedPart {
 impl ListedPart for Reading {
     ghost part_text = { reading_text };
 
-    // Puts the register with its value behind a text, and the version in parentheses.
+    // Puts the register with its value behind a text, and its version, where the style has it.
     fn push(&self, text: &mut Vec<u8>, names: &SourceNames<'_>) -> Result<(), AllocError> {
         push_valued(text, names, self.register, b"=", self.value)?;
-        push_labelled(text, b" (version ", self.version)?;
-        text.extend_from_slice(b")")
+        push_version(text, names.style.versions, self.version)
     }
 }
 
@@ -83,7 +94,7 @@ impl ListedPart for Changed {
     fn push(&self, text: &mut Vec<u8>, names: &SourceNames<'_>) -> Result<(), AllocError> {
         push_valued(text, names, self.register, b" ", self.before)?;
         text.extend_from_slice(b" -> ")?;
-        push_value(text, self.after)
+        push_value(text, names.style.radix, self.after)
     }
 }
 
@@ -192,13 +203,25 @@ fn has_any<T>(list: &[T]) -> bool
     }
 }
 
-// Puts what is read, changed, assigned and printed behind a text.
+// Puts behind a text that the run is finished, where it is.
+fn push_finish(text: &mut Vec<u8>, behind: bool, finishes: bool) -> Result<(), AllocError>
+    ensures { OnOk result (text.new.items ≡ text.old.items ++ finish_text behind finishes) }
+{
+    if !finishes {
+        return Ok(());
+    }
+    text.extend_from_slice(delimiter(behind).as_bytes())?;
+    text.extend_from_slice(b"calls $finish")
+}
+
+// Puts what is read, changed, assigned and printed behind a text, and whether the run is finished.
 fn push_parts(
     text: &mut Vec<u8>,
     names: &SourceNames<'_>,
     account: &EntryAccount,
+    finishes: bool,
 ) -> Result<(), AllocError>
-    ensures { OnOk result (text.new.items ≡ text.old.items ++ parts_text names.entry.now (account_of account.now)) }
+    ensures { OnOk result (text.new.items ≡ text.old.items ++ parts_text names.entry.now (account_of account.now) finishes) }
 {
     let reads = has_any(&account.reads);
     let changes = reads | has_any(&account.changes);
@@ -206,24 +229,46 @@ fn push_parts(
     push_list(text, names, &account.reads, false, "reads ")?;
     push_list(text, names, &account.changes, reads, "writes ")?;
     push_list(text, names, &account.assigned, changes, "assigns ")?;
-    push_printed(text, account.lines.as_bytes(), assigned)
+    push_printed(text, account.lines.as_bytes(), assigned)?;
+    push_finish(text, assigned | has_any(account.lines.as_bytes()), finishes)
 }
 
-/// Puts the line of an entry behind a text: its number, counted from 1, the time, who does it, and what it reads, changes, assigns
-/// and prints.
-pub(crate) fn push_entry(
+// Puts the line of an entry behind a text: its number, counted from 1, the time, who does it, what it reads, changes, assigns and
+// prints, and whether it finishes the run.
+fn push_told(
     text: &mut Vec<u8>,
     names: &SourceNames<'_>,
     number: u64,
     entry: Entry,
     account: &EntryAccount,
+    finishes: bool,
 ) -> Result<(), AllocError>
-    ensures { OnOk result (text.new.items ≡ text.old.items ++ entry_account_text names.entry.now number entry (account_of account.now)) }
+    ensures { OnOk result (text.new.items ≡ text.old.items ++ entry_account_text names.entry.now number entry (account_of account.now) finishes) }
 {
     push_number(text, number)?;
     push_labelled(text, b"  time ", account.time)?;
     text.extend_from_slice(b"  ")?;
     push_actor(text, names, entry, account.actor)?;
-    push_parts(text, names, account)?;
+    push_parts(text, names, account, finishes)?;
     text.extend_from_slice(b"\n")
+}
+
+/// Puts the line of an explainer's last entry behind a text.
+pub(crate) fn push_entry(
+    text: &mut Vec<u8>,
+    names: &SourceNames<'_>,
+    explainer: &Explainer<'_>,
+    entry: Entry,
+) -> Result<(), AllocError>
+    ensures { OnOk result (text.new.items ≡ text.old.items ++ entry_account_text names.entry.now explainer.now.position.core.entries entry explainer.now.account explainer.now.position.core.finished) }
+{
+    let state = explainer.machine().state();
+    push_told(
+        text,
+        names,
+        state.entries(),
+        entry,
+        explainer.told(),
+        state.is_finished(),
+    )
 }

@@ -1,22 +1,41 @@
-//! Parts of the lines: numbers, values, names and quoted text.
+//! Parts of the lines: numbers, names and quoted text.
 
 ghost use Rattle.std.specs.Prelude.{◌≡◌, ◌++◌, OnOk, Some, decimal, slice_get};
-ghost use Rattle.logic4.specs.Display.{binary_text, digit_text};
-ghost use Rattle.explain.specs.Phrases.{escaped, escaped_text, known_name, location_text, process_text, quoted_text, register_text, size_text, value_text, word_text};
+ghost use Rattle.explain.specs.EntryLines.{plain_style};
+ghost use Rattle.explain.specs.Phrases.{escaped, escaped_text, known_name, location_text, process_text, quoted_text, register_text, word_text};
 
 use design::{Design, RegId};
 use itoa::Buffer;
+use literals::Radix;
 use locations::ProcessLocation;
-use logic4::bits::Bits;
-use logic4::digit::Digit;
 use std::alloc::AllocError;
 
-/// What registers and processes are called by: a source with its design, and its processes.
+/// How entries are written: in which digits values are, and whether a read says its version.
+#[derive(Clone, Copy)]
+pub struct EntryStyle {
+    pub radix: Radix,
+    pub versions: bool,
+}
+
+impl EntryStyle {
+    /// Binary values, and no versions.
+    pub fn plain() -> EntryStyle
+        ensures { result ≡ plain_style }
+    {
+        EntryStyle {
+            radix: Radix::Binary,
+            versions: false,
+        }
+    }
+}
+
+/// What registers and processes are called by, a source with its design and its processes; and how entries are written.
 #[derive(Clone, Copy)]
 pub struct SourceNames<'a> {
     pub source: &'a [u8],
     pub design: &'a Design,
     pub processes: &'a [ProcessLocation],
+    pub style: EntryStyle,
 }
 
 /// Puts a number behind a text.
@@ -33,47 +52,6 @@ pub fn push_labelled(text: &mut Vec<u8>, label: &[u8], number: u64) -> Result<()
 {
     text.extend_from_slice(label)?;
     push_number(text, number)
-}
-
-// The letter of a digit.
-fn letter(digit: Digit) -> &'static str
-    ensures { result.now ≡ digit_text digit }
-{
-    match digit {
-        Digit::Zero => "0",
-        Digit::One => "1",
-        Digit::X => "x",
-        Digit::Z => "z",
-    }
-}
-
-// Puts the digits of a value behind a text, the most significant one first.
-fn push_digits(text: &mut Vec<u8>, value: Bits) -> Result<(), AllocError>
-    ensures { OnOk result (text.new.items ≡ text.old.items ++ binary_text value) }
-{
-    for index in (0..value.width()).rev() {
-        text.extend_from_slice(letter(value.digit(index)).as_bytes())?;
-    }
-    Ok(())
-}
-
-// Puts the size of a literal behind a text, but none of one digit.
-fn push_size(text: &mut Vec<u8>, width: u32) -> Result<(), AllocError>
-    ensures { OnOk result (text.new.items ≡ text.old.items ++ size_text width) }
-{
-    if width <= 1 {
-        return Ok(());
-    }
-    push_number(text, u64::from(width))?;
-    text.extend_from_slice(b"'b")
-}
-
-/// Puts a value behind a text: one digit alone, and more of them as a sized binary literal (3.5.1).
-pub fn push_value(text: &mut Vec<u8>, value: Bits) -> Result<(), AllocError>
-    ensures { OnOk result (text.new.items ≡ text.old.items ++ value_text value) }
-{
-    push_size(text, value.width())?;
-    push_digits(text, value)
 }
 
 // Puts a byte behind a text, as it stands in a string (3.6).

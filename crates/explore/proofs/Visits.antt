@@ -14,41 +14,37 @@ use Rattle.explore.specs.declared.visited.Visit.{Visit}
 use Rattle.explore.proofs.TextEdges.{both}
 use Rattle.explore.proofs.Growing.{slice_get_push}
 
--- what a key was shortened to
-abbrev pub short_of : Visit → Shortened
-short_of row = record { number = row.number; levels = row.levels }
-
 -- the parts of each key are there
 abbrev pub AreHeld : List (List ℕ) → List Visit → Type 0
-AreHeld chunks rows = (k : ℕ) (row : Visit) → slice_get rows k ≡ Some row → HoldsWhole chunks (short_of row)
+AreHeld chunks rows = (k : ℕ) (row : Visit) → slice_get rows k ≡ Some row → HoldsWhole chunks row.key
 
 -- the keys stay the same where parts are added
 pub visits-extends : (old new : List (List ℕ)) (rows : List Visit) → Extends old new → AreHeld old rows → map (visit new) rows ≡ map (visit old) rows
 visits-extends old new [] more held = refl
 visits-extends old new (row ∷ rows) more held =
-    ap (λ (key : List ℕ). (row.text, key) ∷ map (visit new) rows) (told-extends old new row.levels (row.number ∷ []) more (held 0 row refl))
+    ap (λ (key : List ℕ). (row.text, key) ∷ map (visit new) rows) (told-extends old new row.key.levels (row.key.number ∷ []) more (held 0 row refl))
     ∙ ap (λ (vs : List (ℕ × List ℕ)). visit old row ∷ vs) (visits-extends old new rows more (λ k r e. held (suc k) r e))
 
 -- their parts stay there
 pub AreHeld-extends : (old new : List (List ℕ)) (rows : List Visit) → Extends old new → AreHeld old rows → AreHeld new rows
-AreHeld-extends old new rows more held k row at = AreTold-extends old new row.levels (row.number ∷ []) more (held k row at)
+AreHeld-extends old new rows more held k row at = AreTold-extends old new row.key.levels (row.key.number ∷ []) more (held k row at)
 
 -- the parts of one key more are there
-pub AreHeld-push : (chunks : List (List ℕ)) (rows rows' : List Visit) (row : Visit) → rows' ≡ rows ++ row ∷ [] → AreHeld chunks rows → HoldsWhole chunks (short_of row) → AreHeld chunks rows'
+pub AreHeld-push : (chunks : List (List ℕ)) (rows rows' : List Visit) (row : Visit) → rows' ≡ rows ++ row ∷ [] → AreHeld chunks rows → HoldsWhole chunks row.key → AreHeld chunks rows'
 AreHeld-push chunks rows rows' row pushed held one k r at =
     elim (slice_get_push rows row r k (ap (λ (l : List Visit). slice_get l k) (sym pushed) ∙ at)) [
       | inl h ↦ held k r h.1
-      | inr h ↦ subst (λ (v : Visit). HoldsWhole chunks (short_of v)) h.1 one
+      | inr h ↦ subst (λ (v : Visit). HoldsWhole chunks v.key) h.1 one
     ]
 
 -- a visit more
-pub visits-push : (chunks : List (List ℕ)) (rows rows' : List Visit) (row : Visit) (key : List ℕ) → rows' ≡ rows ++ row ∷ [] → unshortened chunks (short_of row) ≡ key → map (visit chunks) rows' ≡ map (visit chunks) rows ++ (row.text, key) ∷ []
+pub visits-push : (chunks : List (List ℕ)) (rows rows' : List Visit) (row : Visit) (key : List ℕ) → rows' ≡ rows ++ row ∷ [] → unshortened chunks row.key ≡ key → map (visit chunks) rows' ≡ map (visit chunks) rows ++ (row.text, key) ∷ []
 visits-push chunks rows rows' row key pushed told =
     ap (λ (l : List Visit). map (visit chunks) l) pushed
     ∙ (map-append (visit chunks) rows (row ∷ []) ∙ ap (λ (l : List ℕ). map (visit chunks) rows ++ (row.text, l) ∷ []) told)
 
 -- what stands among the rows is a visit
-pub visit_at : (chunks : List (List ℕ)) (rows : List Visit) (k : ℕ) (row : Visit) (key : List ℕ) → slice_get rows k ≡ Some row → unshortened chunks (short_of row) ≡ key → slice_get (map (visit chunks) rows) k ≡ Some (row.text, key)
+pub visit_at : (chunks : List (List ℕ)) (rows : List Visit) (k : ℕ) (row : Visit) (key : List ℕ) → slice_get rows k ≡ Some row → unshortened chunks row.key ≡ key → slice_get (map (visit chunks) rows) k ≡ Some (row.text, key)
 visit_at chunks rows k row key at told =
     slice_get-map (visit chunks) rows k ∙ (ap (λ (o : Option Visit). option_map (visit chunks) o) at ∙ ap (λ (l : List ℕ). Some (row.text, l)) told)
 
@@ -63,11 +59,11 @@ row_stayed true is_new rows rows' row e one two = e
 row_stayed false is_new rows rows' row e one two = cc
 
 -- visits that the test takes for one are one
-pub same_visit : (a b : Visit) → (eqb a.text b.text && (eqb a.number b.number && eqb a.levels b.levels)) ≡ true → a ≡ b
+pub same_visit : (a b : Visit) → (eqb a.text b.text && (eqb a.key.number b.key.number && eqb a.key.levels b.key.levels)) ≡ true → a ≡ b
 same_visit a b same =
-    let first = both (eqb a.text b.text) (eqb a.number b.number && eqb a.levels b.levels) same in
-    let second = both (eqb a.number b.number) (eqb a.levels b.levels) first.1 in
-    let by_text : ◌≡◌ {A = Visit} a (record { text = b.text; number = a.number; levels = a.levels }) = ap (λ (n : ℕ). let v : Visit = record { text = n; number = a.number; levels = a.levels } in v) (eqb-true a.text b.text first.0) in
-    let by_number : ◌≡◌ {A = Visit} (record { text = b.text; number = a.number; levels = a.levels }) (record { text = b.text; number = b.number; levels = a.levels }) = ap (λ (n : ℕ). let v : Visit = record { text = b.text; number = n; levels = a.levels } in v) (eqb-true a.number b.number second.0) in
-    let by_levels : ◌≡◌ {A = Visit} (record { text = b.text; number = b.number; levels = a.levels }) b = ap (λ (n : ℕ). let v : Visit = record { text = b.text; number = b.number; levels = n } in v) (eqb-true a.levels b.levels second.1) in
-    by_text ∙ (by_number ∙ by_levels)
+    let first = both (eqb a.text b.text) (eqb a.key.number b.key.number && eqb a.key.levels b.key.levels) same in
+    let second = both (eqb a.key.number b.key.number) (eqb a.key.levels b.key.levels) first.1 in
+    let by_number : ◌≡◌ {A = Shortened} a.key (record { number = b.key.number; levels = a.key.levels }) = ap (λ (n : ℕ). let k : Shortened = record { number = n; levels = a.key.levels } in k) (eqb-true a.key.number b.key.number second.0) in
+    let by_levels : ◌≡◌ {A = Shortened} (record { number = b.key.number; levels = a.key.levels }) b.key = ap (λ (n : ℕ). let k : Shortened = record { number = b.key.number; levels = n } in k) (eqb-true a.key.levels b.key.levels second.1) in
+    let by_text : ◌≡◌ {A = Visit} a (record { text = b.text; key = a.key }) = ap (λ (n : ℕ). let v : Visit = record { text = n; key = a.key } in v) (eqb-true a.text b.text first.0) in
+    by_text ∙ ap (λ (k : Shortened). let v : Visit = record { text = b.text; key = k } in v) (by_number ∙ by_levels)

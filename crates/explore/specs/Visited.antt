@@ -6,7 +6,7 @@ use Rattle.explore.specs.declared.visited.Visited.{Visited}
 
 -- the number of a visit's text, and the whole of its key
 abbrev pub visit : List (List ℕ) → Visit → ℕ × List ℕ
-visit chunks row = (row.text, unshortened chunks (record { number = row.number; levels = row.levels }))
+visit chunks row = (row.text, unshortened chunks row.key)
 
 -- the visits, by the numbers of the nodes
 abbrev pub visits : Visited → List (ℕ × List ℕ)
@@ -15,7 +15,7 @@ visits held = map (visit (chunk_table held.parts)) held.rows.keys
 -- the parts of each key are there
 pub record AreVisits (held : Visited) : Type 0 where
   pub are_parts : AreParts held.parts
-  pub held_keys : (k : ℕ) (row : Visit) → slice_get held.rows.keys k ≡ Some row → HoldsWhole (chunk_table held.parts) (record { number = row.number; levels = row.levels })
+  pub held_keys : (k : ℕ) (row : Visit) → slice_get held.rows.keys k ≡ Some row → HoldsWhole (chunk_table held.parts) row.key
 
 -- the visit with a number has this text and this key
 abbrev pub IsThere : (ℕ × List ℕ) → List (ℕ × List ℕ) → ℕ → Type 0

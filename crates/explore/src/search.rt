@@ -1,6 +1,6 @@
 //! The search.
-ghost use Rattle.std.specs.Prelude.{◌≡◌, ◌<◌, ◌≤◌, ◌⊎◌, [], true, false, length, get_or, None, Some, IsTrue, IfOk, IfSome, OnOk};
-ghost use Rattle.std.specs.List.{All, AllPairs};
+ghost use Rattle.std.specs.Prelude.{◌≡◌, ◌<◌, ◌≤◌, ◌⊎◌, ◌∷◌, [], true, false, length, get_or, None, Some, IsTrue, IfOk, IfSome, OnOk};
+ghost use Rattle.std.specs.List.{All, AllPairs, Any};
 ghost use Rattle.sharing.specs.Parts.{Extends};
 ghost use Rattle.explore.specs.SearchKept.{AreContinued, AreKept, Grows, IsPendingNode};
 ghost use Rattle.explore.specs.Search.{AreAllShown, AreCounted, AreDistinct, IsEndless, IsFollowed, IsOfRun, IsShown, Serves};
@@ -132,6 +132,60 @@ fn tell_nodes<P: Progress>(progress: &P, before: usize, now: usize) {
     }
 }
 
+/// Searches from the node at the start of the runs on, shows what the runs print and how they end, and counts the nodes that are kept.
+fn search_from<O: Orders, P: Progress>(
+    scope: SearchScope<'_, O>,
+    room: &mut O::Room,
+    kept: &mut KeptNodes<O::Node, O::Move>,
+    shown: &mut Vec<Shown<O::Move, O::End>>,
+    nodes: &mut usize,
+    progress: &P,
+) -> Result<SearchOutcome<O::Move>, AllocError>
+    requires room { 0 < scope.bounds.nodes }
+    requires none { shown.old.items ≡ [] }
+    requires begun { nodes.old ≡ 0 }
+    requires kept { AreKept (O.runs scope.orders.now) (O.has_key scope.orders.now) kept.old }
+    requires continued { AreContinued (O.runs scope.orders.now) kept.old }
+    requires ways { ways kept.old.lineage ≡ [] ∷ [] }
+    requires waits { Any (λ p. p.number ≡ 0) kept.old.pending.items }
+    ensures few { nodes.new ≤ scope.entry.bounds.nodes }
+    ensures few_shown { length shown.new.items ≤ scope.entry.bounds.shown }
+    ensures sound { All (IsOfRun (O.runs scope.entry.orders.now)) shown.new.items }
+    ensures distinct { AllPairs AreDistinct shown.new.items }
+    ensures all { stopped_of result ≡ None → AreAllShown (O.runs scope.entry.orders.now) shown.new.items }
+    ensures nodes { stopped_of result ≡ Some stop.Nodes → nodes.new ≡ scope.entry.bounds.nodes }
+    ensures full { stopped_of result ≡ Some stop.Shown → length shown.new.items ≡ scope.entry.bounds.shown }
+    ensures counted { AreCounted (O.runs scope.entry.orders.now) shown.new.items (stopped_of result) nodes.new }
+    ensures endless { IfOk result (λ outcome. IfSome outcome.endless (λ moves. IsEndless (O.runs scope.entry.orders.now) moves.items)) }
+{
+    *nodes = kept.lineage.len();
+    let mut stopped = None;
+    while let Some(reached) = kept.pending.pop() {
+        if kept.bytes() > scope.bounds.bytes {
+            return Ok(SearchOutcome {
+                stopped: Some(Stopped::Bytes),
+                endless: None,
+            });
+        }
+        let number = reached.number;
+        let node = node_at(scope, room, &kept.lineage, &mut kept.nodes, number)?;
+        let at = Pending { node, reached };
+        let left = expand_node(scope, room, kept, shown, at)?;
+        let count = kept.lineage.len();
+        tell_nodes(progress, *nodes, count);
+        *nodes = count;
+        if is_full(left) {
+            return Ok(SearchOutcome {
+                stopped: left,
+                endless: None,
+            });
+        }
+        stopped = earlier(stopped, left);
+    }
+    let endless = find_endless(scope.alloc, &kept.lineage, &kept.links)?;
+    Ok(SearchOutcome { stopped, endless })
+}
+
 /// Shows what the runs print and how they end, and counts the nodes that are kept.
 fn search<O: Orders, P: Progress>(
     scope: SearchScope<'_, O>,
@@ -154,32 +208,9 @@ fn search<O: Orders, P: Progress>(
 {
     let mut room = scope.orders.room(scope.alloc);
     let mut kept = first(scope, &mut room)?;
-    *nodes = kept.lineage.len();
-    let mut stopped = None;
-    while let Some(reached) = kept.pending.pop() {
-        if kept.bytes() > scope.bounds.bytes {
-            return Ok(SearchOutcome {
-                stopped: Some(Stopped::Bytes),
-                endless: None,
-            });
-        }
-        let number = reached.number;
-        let node = node_at(scope, &mut room, &kept.lineage, &mut kept.nodes, number)?;
-        let at = Pending { node, reached };
-        let left = expand_node(scope, &mut room, &mut kept, shown, at)?;
-        let count = kept.lineage.len();
-        tell_nodes(progress, *nodes, count);
-        *nodes = count;
-        if is_full(left) {
-            return Ok(SearchOutcome {
-                stopped: left,
-                endless: None,
-            });
-        }
-        stopped = earlier(stopped, left);
-    }
-    let endless = find_endless(scope.alloc, &kept.lineage, &kept.links)?;
-    Ok(SearchOutcome { stopped, endless })
+    let outcome = search_from(scope, &mut room, &mut kept, shown, nodes, progress);
+    drop(kept);
+    outcome
 }
 
 /// Searches the runs, depth first. Each text and end that is shown is that of the run of the moves beside it, and no two

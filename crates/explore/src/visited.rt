@@ -13,8 +13,7 @@ const VISIT_BYTES: usize = 32;
 #[derive(Clone, Copy, PartialEq, Eq, Hash)]
 pub(crate) struct Visit {
     pub(crate) text: usize,
-    pub(crate) number: u32,
-    pub(crate) levels: u32,
+    pub(crate) key: Shortened,
 }
 
 /// The visits, in the order of the numbers of the nodes, and the parts that their keys share.
@@ -22,17 +21,6 @@ pub(crate) struct Visit {
 pub(crate) struct Visited {
     pub(crate) parts: Parts,
     pub(crate) rows: IndexSet<Visit>,
-}
-
-// The visit of a text and of what a key was shortened to.
-fn visit_of(text: usize, key: Shortened) -> Visit
-    ensures { result ≡ record { text = text; number = key.number; levels = key.levels } }
-{
-    Visit {
-        text,
-        number: key.number,
-        levels: key.levels,
-    }
 }
 
 impl Visited {
@@ -64,7 +52,7 @@ impl Visited {
             Some(key) => key,
             None => return Ok(None),
         };
-        match self.rows.get_full(&visit_of(text, key)) {
+        match self.rows.get_full(&Visit { text, key }) {
             Some((number, _)) => Ok(Some(number)),
             None => Ok(None),
         }
@@ -78,7 +66,7 @@ impl Visited {
         ensures added { IfOk result (λ there. there ≡ None → visits self.new ≡ visits self.old ++ (text, key.now) ∷ []) }
     {
         let key = self.parts.shorten(key)?;
-        let (number, is_new) = self.rows.insert_full(visit_of(text, key))?;
+        let (number, is_new) = self.rows.insert_full(Visit { text, key })?;
         if is_new {
             return Ok(None);
         }

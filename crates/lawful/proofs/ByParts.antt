@@ -23,13 +23,13 @@ use Rattle.looseruns.specs.LooseGoing.{GoesLooselyTo}
 use Rattle.looseruns.proofs.LooseCovering.{any_of_map}
 use Rattle.runs.specs.Halting.{GoesOn}
 use Rattle.runs.proofs.Halts.{only_long_turns_end}
-use Rattle.looseparts.specs.PartLaws.{CoverToEnds}
+use Rattle.looseruns.specs.ObservedEnding.{CoverToFinish}
 use Rattle.looseparts.specs.EndingCover.{TellsWaysToEnds}
 use Rattle.looseparts.specs.FoundWays.{ways_in}
 use Rattle.looseparts.proofs.Lists.{contains_here, all_contained}
 use Rattle.looseparts.specs.declared.parts.CoveringWays.{CoveringWays}
 use Rattle.lawful.specs.Again.{HasTakenEach}
-use Rattle.lawful.specs.LooseNodes.{IsReadyNode, IsLooseWayOn, IsLooseWayToEnd, AreAllLooseWays, IsExpandedAt}
+use Rattle.lawful.specs.LooseNodes.{IsReadyNode, IsLooseWayOn, IsLooseWayToEnd, LeadToFinish, AreAllLooseWays, IsExpandedAt}
 use Rattle.lawful.specs.ByParts.{IsWithin, StandForAll, IsOnInTime, IsWayTaken, AreWaysTaken, moves_to_ends, IsFinishedAt, IsFinishedInTime, AreEndsOf, AreFollowed}
 use Rattle.lawful.specs.declared.node.LooseNode.{LooseNode}
 
@@ -147,6 +147,16 @@ ways_to_ends_told class code limits s ends ys same all way f there goes =
     let (j, path, low, is, moves) = any_of_map (λ (path : EndedPath LooseTransition End). path.moves.items) (λ l. l ≡ way) ys (k, way, less, at, refl) in
     (j, path, low, is, tells_path class code limits s way f path moves (All-contains (IsToFinish class code limits s) ys path all (j, low, is)) goes)
 
+-- the run has finished where each of these ways to ends leads
+ways_finish : (class : ℕ → ℕ) (code : Compiled) (limits : Limits) (s : State) (ends : List (List LooseTransition)) (ys : List (EndedPath LooseTransition End)) → moves_to_ends ys ≡ ends → All (IsToFinish class code limits s) ys → LeadToFinish class (design_of code) s ends
+ways_finish class code limits s ends ys same all way f there goes =
+    let (k, less, at) = subst (λ (l : List (List LooseTransition)). Contains l way) (sym same) there in
+    let (j, path, low, is, moves) = any_of_map (λ (path : EndedPath LooseTransition End). path.moves.items) (λ l. l ≡ way) ys (k, way, less, at, refl) in
+    let (end, to) = All-contains (IsToFinish class code limits s) ys path all (j, low, is) in
+    let here : EndsHere (design_of code) limits to.effect (Stopped Finish) = subst (EndsHere (design_of code) limits to.effect) end to.here in
+    let one : to.goes.effect ≡ f = one_effect to.goes.effect f (sym to.goes.goes ∙ (ap (moves_from class (design_of code) (silent s)) moves ∙ goes)) in
+    ap (λ (e : Effect). e.state.finished) (sym one) ∙ (to.goes.one_node.1.finished ∙ here.2)
+
 -- nothing is left out where the ways by parts stand for all
 parts_all : (class : ℕ → ℕ) (limits : Limits) (m : MachineView) (found : CoveringWays) (xs : List (Successor LooseNode LooseTransition)) (ys : List (EndedPath LooseTransition End)) → GoesOn limits (state_at m) → StandForAll class limits m found → AreFollowed class m.code (state_at m) found xs ys
     → AreAllLooseWays class m.code limits (state_at m) xs ys
@@ -154,7 +164,8 @@ parts_all class limits m found xs ys on stand followed =
     let design = design_of m.code in
     record {
       ends = ways_in found.ends.items;
-      cover = subst (λ (l : List (List LooseTransition)). CoverToEnds class design limits (state_at m) l (ways_in found.ends.items)) (sym followed.nexts.ways_are) stand.cover;
+      finish = ways_finish class m.code limits (state_at m) (ways_in found.ends.items) ys followed.ends.ways_are (to_finish class m.code limits (state_at m) m.core.entries found xs ys followed stand.ends_within);
+      cover = subst (λ (l : List (List LooseTransition)). CoverToFinish class design limits (state_at m) l (ways_in found.ends.items)) (sym followed.nexts.ways_are) stand.cover;
       ways_told = ways_to_ends_told class m.code limits (state_at m) (ways_in found.ends.items) ys followed.ends.ways_are (to_finish class m.code limits (state_at m) m.core.entries found xs ys followed stand.ends_within);
       told = λ end here.
           let (p, is, long) = only_long_turns_end design limits (state_at m) on.entry end on.next here in

@@ -25,7 +25,7 @@ use Rattle.explore.specs.declared.Expanded.{Expanded}
 use Rattle.lawful.specs.LooseNodes.{IsLooseWayOn, IsLooseWayToEnd, AreLooseWaysFor, AreAllLooseWays, IsExpandedAt}
 use Rattle.lawful.specs.declared.node.LooseNode.{LooseNode}
 use Rattle.lawful.proofs.LongTurns.{step_is_permitted_loosely, some_may_be_next}
-use Rattle.lawful.proofs.Ways.{all_followed, followed_cover, covers_without_ends, none_to_tell}
+use Rattle.lawful.proofs.Ways.{all_followed, followed_cover, covers_without_ends, none_finish, none_to_tell}
 
 -- the end of a run that halts, as what an expansion tells
 abbrev pub IsRested : End → List (EndedPath LooseTransition End) → Type 0
@@ -55,6 +55,7 @@ halted_all class code limits s end successors xs order halts (one, is, end_is, p
     let all : AreAllLooseWays class code limits s [] (one ∷ []) =
     record {
       ends = [];
+      finish = none_finish class design s;
       cover = covers_without_ends class design limits s [] (followed_cover class design limits s [] follow);
       ways_told = none_to_tell class design s (one ∷ []);
       told = λ other here. (0, one, omega arith, refl, (printed, end_is ∙ sym (halts.only other here)));

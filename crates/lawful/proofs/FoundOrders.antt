@@ -1,30 +1,34 @@
 -- What a search of loose runs found, with lawful journals, are lawful orders.
-use Rattle.std.proofs.Common.{◌≡◌, ◌⊎◌, ℕ, ◌≤◌, Bool, true, length, Option, Some, None, inl, inr, refl, sym, ap, ◌∙◌, subst, arith}
-use Rattle.std.specs.List.{AllPairs}
+use Rattle.std.proofs.Common.{◌≡◌, ◌⊎◌, ℕ, ◌<◌, ◌≤◌, Bool, true, List, [], length, Option, Some, None, inl, inr, refl, sym, ap, ◌∙◌, subst, arith}
+use Rattle.std.specs.Prelude.{IfSome}
+use Rattle.std.specs.List.{All}
+use Rattle.std.specs.Global.{Vec}
+use Rattle.std.proofs.lemmas.List.Elements.{All-nil}
 use Rattle.model.specs.declared.end.Limits.{Limits}
-use Rattle.model.specs.declared.end.End.{End}
 use Rattle.model.specs.declared.entry.Entry.{Entry}
-use Rattle.design.specs.Compiled.{Compiled, design_of}
+use Rattle.model.specs.Design.{Design}
+use Rattle.model.specs.Texts.{IsEndlessJournal}
 use Rattle.explore.specs.declared.Bounds.{Bounds}
 use Rattle.explore.specs.declared.Explored.{Explored}
+use Rattle.explore.specs.declared.Shown.{Shown}
 use Rattle.explore.specs.declared.stopped.Stopped.{Stopped}
 use Rattle.explore.specs.declared.stopped.Stopped.TheVariants as stop
-use Rattle.explore.specs.Search.{AreAllShown, AreDistinct}
+use Rattle.explore.specs.SearchedRuns.{Runs}
+use Rattle.explore.specs.Search.{AreAllShown}
 use Rattle.loose.specs.declared.transition.LooseTransition.{LooseTransition}
-use Rattle.lawful.specs.LooseNodes.{searched_runs}
-use Rattle.lawful.specs.Journals.{memory_or, IsStoppedBy, IsFoundLawfully}
-use Rattle.lawful.specs.LawfulOrders.{AreLawfulOrders}
+use Rattle.lawful.specs.declared.node.LooseNode.{LooseNode}
+use Rattle.lawful.specs.Journals.{JournalRelation, HasLawfulJournal, texts_and_ends, memory_or, IsStoppedBy, IsFoundLawfully}
+use Rattle.lawful.specs.LawfulOrders.{AreFoundLoosely, AreLawfulOrders}
 use Rattle.lawful.proofs.ShownLawfully.{as_many_shown, still_distinct, first_distinct, no_longer, is_whole}
-use Rattle.lawful.proofs.LawfulTexts.{are_lawful, are_within, are_all}
 
--- what a search of loose runs promises of them, by these classes and within these bounds
-pub record Searched (code : Compiled) (class : ℕ → ℕ) (limits : Limits) (bounds : Bounds) (loosely : Explored LooseTransition End) : Type 0 where
-  pub distinct : AllPairs AreDistinct loosely.shown.items
-  pub all : loosely.stopped ≡ None → AreAllShown (searched_runs code class limits) loosely.shown.items
-  pub few : loosely.nodes ≤ bounds.nodes
-  pub few_shown : length loosely.shown.items ≤ bounds.shown
-  pub nodes_full : loosely.stopped ≡ Some stop.Nodes → loosely.nodes ≡ bounds.nodes
-  pub shown_full : loosely.stopped ≡ Some stop.Shown → length loosely.shown.items ≡ bounds.shown
+no_reason : Some stop.Memory ≡ None → ⊥
+no_reason is = cc
+
+memory_not_nodes : Some stop.Memory ≡ Some stop.Nodes → ⊥
+memory_not_nodes is = cc
+
+memory_not_shown : Some stop.Memory ≡ Some stop.Shown → ⊥
+memory_not_shown is = cc
 
 -- why a search stopped that lacks journals
 
@@ -62,20 +66,20 @@ lacks_none before stopped whole (inl both) is = both
 lacks_none before stopped whole (inr same) (inl none) = absurd (never_none before (sym same ∙ none))
 lacks_none before stopped whole (inr same) (inr full) = absurd (never_shown before (sym same ∙ full))
 
-pub are_lawful_orders : (code : Compiled) (class : ℕ → ℕ) (limits : Limits) (bounds : Bounds) (loosely : Explored LooseTransition End) (found : Explored Entry End) → Searched code class limits bounds loosely → IsFoundLawfully code limits loosely found → AreLawfulOrders (design_of code) limits bounds found
-are_lawful_orders code class limits bounds loosely found searched is =
+pub are_lawful_orders : {End : Type 0} (IsJournal : JournalRelation End) (AreAll : List (List ℕ × End) → Type 0) (runs : Runs LooseTransition LooseNode End) (design : Design) (limits : Limits) (bounds : Bounds) (loosely : Explored LooseTransition End) (found : Explored Entry End)
+    → ((shown : List (Shown LooseTransition End)) → AreAllShown runs shown → AreAll (texts_and_ends shown)) → AreFoundLoosely runs bounds loosely → IsFoundLawfully IsJournal design limits loosely found → AreLawfulOrders IsJournal AreAll design limits bounds found
+are_lawful_orders {End} IsJournal AreAll runs design limits bounds loosely found all_told searched is =
     let first = is.shown_is in
-    let part = first.part in
+    let part : List (Shown LooseTransition End) = first.part in
     let many = as_many_shown part found.shown.items first.shown_is.same in
     let fewer = no_longer part first.rest loosely.shown.items first.split in
     record {
-      sound = are_lawful code limits part found.shown.items first.shown_is;
+      journals = first.shown_is.journals;
       distinct = still_distinct part found.shown.items first.shown_is.same (first_distinct part first.rest loosely.shown.items first.split searched.distinct);
-      within = are_within code limits part found.shown.items first.shown_is;
       all = λ none.
           let (all, same) = lacks_none loosely.stopped found.stopped is.whole is.stopped_is (inl none) in
           let whole : loosely.shown.items ≡ part = sym (is_whole part first.rest loosely.shown.items first.split (first.all all)) in
-          are_all code class limits part found.shown.items first.shown_is (subst (AreAllShown (searched_runs code class limits)) whole (searched.all (sym same ∙ none)));
+          subst AreAll (sym first.shown_is.same) (all_told part (subst (AreAllShown runs) whole (searched.all (sym same ∙ none))));
       few = omega (arith, is.nodes_are, searched.few);
       few_shown = omega (arith, many, fewer, searched.few_shown);
       nodes_full = λ full. is.nodes_are ∙ searched.nodes_full (stopped_before loosely.stopped found.stopped is.whole is.stopped_is full);
@@ -84,4 +88,20 @@ are_lawful_orders code class limits bounds loosely found searched is =
           let whole : part ≡ loosely.shown.items = is_whole part first.rest loosely.shown.items first.split (first.all all) in
           many ∙ (ap length whole ∙ searched.shown_full (sym same ∙ full));
       never_ends = is.never_ends;
+    }
+
+-- where nothing was found, and the search says that it was stopped for want of memory
+pub nothing_is_found : {End : Type 0} (IsJournal : JournalRelation End) (AreAll : List (List ℕ × End) → Type 0) (design : Design) (limits : Limits) (bounds : Bounds) (found : Explored Entry End) → found.shown.items ≡ [] → found.stopped ≡ Some stop.Memory → found.nodes ≡ 0 → found.endless ≡ None
+    → AreLawfulOrders IsJournal AreAll design limits bounds found
+nothing_is_found {End} IsJournal AreAll design limits bounds found none stopped nodes endless =
+    let few : length found.shown.items ≡ 0 = ap length none in
+    record {
+      journals = subst (All (HasLawfulJournal IsJournal)) (sym none) (All-nil (HasLawfulJournal IsJournal));
+      distinct = λ i j d less within. absurd (omega (arith, within, few));
+      all = λ is. absurd (no_reason (sym stopped ∙ is));
+      few = omega (arith, nodes);
+      few_shown = omega (arith, few);
+      nodes_full = λ is. absurd (memory_not_nodes (sym stopped ∙ is));
+      shown_full = λ is. absurd (memory_not_shown (sym stopped ∙ is));
+      never_ends = subst (λ (o : Option (Vec Entry)). IfSome o (λ journal. IsEndlessJournal design limits journal.items)) (sym endless) tt;
     }

@@ -1,29 +1,36 @@
--- What a search of loose runs says of lawful journals.
-use Rattle.std.proofs.Common.{ℕ, ◌≤◌, List, length}
-use Rattle.std.specs.List.{All}
+-- What lawful orders say of the journals that are shown.
+use Rattle.std.proofs.Common.{◌≡◌, ℕ, ◌≤◌, List, length, map}
+use Rattle.std.specs.List.{All, Any}
 use Rattle.std.proofs.lemmas.List.Elements.{All-weaker}
 use Rattle.model.specs.declared.entry.Entry.{Entry}
 use Rattle.model.specs.declared.end.Limits.{Limits}
 use Rattle.model.specs.declared.end.End.{End}
-use Rattle.model.specs.Texts.{AreAllTexts, IsLawfulText}
+use Rattle.model.specs.Texts.{IsLawfulText, IsWithinLimits}
 use Rattle.design.specs.Compiled.{Compiled, design_of}
 use Rattle.explore.specs.declared.Shown.{Shown}
-use Rattle.explore.specs.Search.{IsShown, AreAllShown}
-use Rattle.loose.specs.declared.transition.LooseTransition.{LooseTransition}
-use Rattle.looseruns.proofs.LooseSearches.{all_loose_shown_are_all}
-use Rattle.lawful.specs.LooseNodes.{HoldsEffect, searched_runs}
-use Rattle.lawful.specs.Journals.{HasLawfulJournal, AreShownLawfully}
-use Rattle.lawful.proofs.ShownLawfully.{still_shown}
+use Rattle.explore.specs.Search.{IsShown}
+use Rattle.looseruns.specs.ObservedJournals.{Observer, SeenEnd, IsObservedText}
+use Rattle.looseruns.proofs.LooseCovering.{any_of_map}
+use Rattle.loosejournals.specs.FoundJournals.{IsJournalOf, IsObservedJournalOf}
+use Rattle.lawful.specs.Journals.{HasLawfulJournal, AreAmong, texts_and_ends}
 
-pub are_lawful : (code : Compiled) (limits : Limits) (loosely : List (Shown LooseTransition End)) (lawful : List (Shown Entry End)) → AreShownLawfully code limits loosely lawful → All (λ (s : Shown Entry End). IsLawfulText (design_of code) limits s.moves.items s.text.items s.end) lawful
-are_lawful code limits loosely lawful shown =
-    All-weaker (HasLawfulJournal code limits) (λ (s : Shown Entry End). IsLawfulText (design_of code) limits s.moves.items s.text.items s.end) (λ s journal. journal.lawful) lawful shown.journals
+pub are_lawful : (code : Compiled) (limits : Limits) (shown : List (Shown Entry End)) → All (HasLawfulJournal (IsJournalOf code limits)) shown → All (λ (s : Shown Entry End). IsLawfulText (design_of code) limits s.moves.items s.text.items s.end) shown
+are_lawful code limits shown journals =
+    All-weaker (HasLawfulJournal (IsJournalOf code limits)) (λ (s : Shown Entry End). IsLawfulText (design_of code) limits s.moves.items s.text.items s.end) (λ s journal. journal.lawful) shown journals
 
-pub are_within : (code : Compiled) (limits : Limits) (loosely : List (Shown LooseTransition End)) (lawful : List (Shown Entry End)) → AreShownLawfully code limits loosely lawful → All (λ (s : Shown Entry End). length s.moves.items ≤ limits.max_entries) lawful
-are_within code limits loosely lawful shown =
-    All-weaker (HasLawfulJournal code limits) (λ (s : Shown Entry End). length s.moves.items ≤ limits.max_entries) (λ s journal. journal.few) lawful shown.journals
+pub are_within : (code : Compiled) (limits : Limits) (shown : List (Shown Entry End)) → All (HasLawfulJournal (IsJournalOf code limits)) shown → All (λ (s : Shown Entry End). IsWithinLimits limits s.moves.items) shown
+are_within code limits shown journals =
+    All-weaker (HasLawfulJournal (IsJournalOf code limits)) (λ (s : Shown Entry End). IsWithinLimits limits s.moves.items) (λ s journal. journal.few) shown journals
 
--- where all loose runs are shown, the texts of all lawful journals are
-pub are_all : (code : Compiled) (class : ℕ → ℕ) (limits : Limits) (loosely : List (Shown LooseTransition End)) (lawful : List (Shown Entry End)) → AreShownLawfully code limits loosely lawful → AreAllShown (searched_runs code class limits) loosely → AreAllTexts (design_of code) limits (IsShown lawful)
-are_all code class limits loosely lawful shown all journal text end is timely ends few memory =
-    still_shown loosely lawful text end shown.same (all_loose_shown_are_all (HoldsEffect code) class (design_of code) limits loosely all journal text end is timely ends few memory)
+pub are_observed : (code : Compiled) (limits : Limits) (observe : Observer) (shown : List (Shown Entry SeenEnd)) → All (HasLawfulJournal (IsObservedJournalOf code limits observe)) shown → All (λ (s : Shown Entry SeenEnd). IsObservedText (design_of code) limits observe s.moves.items s.text.items s.end) shown
+are_observed code limits observe shown journals =
+    All-weaker (HasLawfulJournal (IsObservedJournalOf code limits observe)) (λ (s : Shown Entry SeenEnd). IsObservedText (design_of code) limits observe s.moves.items s.text.items s.end) (λ s journal. journal.lawful) shown journals
+
+pub are_observed_within : (code : Compiled) (limits : Limits) (observe : Observer) (shown : List (Shown Entry SeenEnd)) → All (HasLawfulJournal (IsObservedJournalOf code limits observe)) shown → All (λ (s : Shown Entry SeenEnd). IsWithinLimits limits s.moves.items) shown
+are_observed_within code limits observe shown journals =
+    All-weaker (HasLawfulJournal (IsObservedJournalOf code limits observe)) (λ (s : Shown Entry SeenEnd). IsWithinLimits limits s.moves.items) (λ s journal. journal.few) shown journals
+
+-- what is among the texts and the ends that are shown is shown
+pub shown_among : {Move End : Type 0} (shown : List (Shown Move End)) (text : List ℕ) (end : End) → AreAmong (texts_and_ends shown) text end → IsShown shown text end
+shown_among {Move} {End} shown text end there =
+    any_of_map (λ (s : Shown Move End). (s.text.items, s.end)) (λ (pair : List ℕ × End). (pair.0 ≡ text) × (pair.1 ≡ end)) shown there

@@ -8,5 +8,8 @@ pub mod Remade
 pub mod ByParts
 pub mod ShownLawfully
 pub mod LawfulTexts
+pub mod ToldTexts
 pub mod FoundOrders
 pub mod EndlessRuns
+pub mod ObservedWays
+pub mod ObservedNodes

@@ -1,16 +1,13 @@
 -- What is shown with lawful journals has the texts and the ends that loose runs showed.
 use Rattle.std.proofs.Common.{◌≡◌, ℕ, zero, suc, ◌<◌, ◌≤◌, List, [], ◌∷◌, ◌++◌, length, map, get_or, refl, sym, ap, ◌∙◌, subst, arith}
-use Rattle.std.specs.List.{AllPairs, Any}
+use Rattle.std.specs.List.{AllPairs}
 use Rattle.std.proofs.lemmas.List.Elements.{All-push}
 use Rattle.std.proofs.lemmas.List.{length-map, length-append, append-nil, map-append, get_or_append_left}
 use Rattle.model.specs.declared.entry.Entry.{Entry}
-use Rattle.model.specs.declared.end.End.{End}
 use Rattle.explore.specs.declared.Shown.{Shown}
-use Rattle.explore.specs.Search.{AreDistinct, IsShown}
+use Rattle.explore.specs.Search.{AreDistinct}
 use Rattle.loose.specs.declared.transition.LooseTransition.{LooseTransition}
-use Rattle.model.specs.declared.end.Limits.{Limits}
-use Rattle.design.specs.Compiled.{Compiled}
-use Rattle.lawful.specs.Journals.{texts_and_ends, HasLawfulJournal, IsAddedLawfully, AreShownLawfully}
+use Rattle.lawful.specs.Journals.{JournalRelation, texts_and_ends, HasLawfulJournal, IsAddedLawfully, AreShownLawfully}
 
 -- lists that are mapped to one list have as many elements, and those at one place are mapped to one
 
@@ -26,13 +23,13 @@ one_at f g (x ∷ xs) (y ∷ ys) same (suc k) d e within =
     one_at f g xs ys rest k d e (omega (arith, within))
 
 -- the text and the end that are shown
-abbrev pair : {Move : Type 0} → Shown Move End → List ℕ × End
+abbrev pair : {Move End : Type 0} → Shown Move End → List ℕ × End
 pair s = (s.text.items, s.end)
 
-pub as_many_shown : (loosely : List (Shown LooseTransition End)) (lawful : List (Shown Entry End)) → texts_and_ends lawful ≡ texts_and_ends loosely → length lawful ≡ length loosely
+pub as_many_shown : {End : Type 0} (loosely : List (Shown LooseTransition End)) (lawful : List (Shown Entry End)) → texts_and_ends lawful ≡ texts_and_ends loosely → length lawful ≡ length loosely
 as_many_shown loosely lawful same = as_many pair pair lawful loosely same
 
-pub still_distinct : (loosely : List (Shown LooseTransition End)) (lawful : List (Shown Entry End)) → texts_and_ends lawful ≡ texts_and_ends loosely → AllPairs AreDistinct loosely → AllPairs AreDistinct lawful
+pub still_distinct : {End : Type 0} (loosely : List (Shown LooseTransition End)) (lawful : List (Shown Entry End)) → texts_and_ends lawful ≡ texts_and_ends loosely → AllPairs AreDistinct loosely → AllPairs AreDistinct lawful
 still_distinct [] lawful same distinct i j d less within =
     let none = as_many_shown [] lawful same in
     absurd (omega (arith, within, none))
@@ -42,34 +39,17 @@ still_distinct (x ∷ xs) lawful same distinct i j d less within =
     let at_j = one_at pair pair lawful (x ∷ xs) same j d x within in
     λ text end. distinct i j x less (omega (arith, within, long)) (sym (ap (λ p. p.0) at_i) ∙ (text ∙ ap (λ p. p.0) at_j)) (sym (ap (λ p. p.1) at_i) ∙ (end ∙ ap (λ p. p.1) at_j))
 
--- what holds of what some element is mapped to holds of what one of the others is mapped to
-any_at : {X Y P : Type 0} (f : X → P) (g : Y → P) (Q : P → Type 0) (xs : List X) (ys : List Y) → map f xs ≡ map g ys → Any (λ x. Q (f x)) xs → Any (λ y. Q (g y)) ys
-any_at f g Q [] ys same (k, x, within, at, q) = absurd (omega (arith, within))
-any_at f g Q (x ∷ xs) [] same there =
-    let none = as_many f g (x ∷ xs) [] same in
-    absurd (omega (arith, none))
-any_at f g Q (x ∷ xs) (y ∷ ys) same (zero, z, within, at, q) =
-    (0, y, omega arith, refl, subst Q (ap f (sym at) ∙ ap (λ l. get_or l 0 (f x)) same) q)
-any_at f g Q (x ∷ xs) (y ∷ ys) same (suc k, z, within, at, q) =
-    let rest : map f xs ≡ map g ys = cc in
-    let (j, w, low, there, p) = any_at f g Q xs ys rest (k, z, omega (arith, within), at, q) in
-    (suc j, w, omega (arith, low), there, p)
-
-pub still_shown : (loosely : List (Shown LooseTransition End)) (lawful : List (Shown Entry End)) (text : List ℕ) (end : End) → texts_and_ends lawful ≡ texts_and_ends loosely → IsShown loosely text end → IsShown lawful text end
-still_shown loosely lawful text end same there =
-    any_at pair pair (λ (p : List ℕ × End). (p.0 ≡ text) × (p.1 ≡ end)) loosely lawful (sym same) there
-
 -- one more has its journal
-pub one_more : (code : Compiled) (limits : Limits) (done : List (Shown LooseTransition End)) (loosely : Shown LooseTransition End) (before after : List (Shown Entry End)) → AreShownLawfully code limits done before → IsAddedLawfully code limits before loosely after → AreShownLawfully code limits (done ++ loosely ∷ []) after
-one_more code limits done loosely before after shown (one, is, own) =
+pub one_more : {End : Type 0} (IsJournal : JournalRelation End) (done : List (Shown LooseTransition End)) (loosely : Shown LooseTransition End) (before after : List (Shown Entry End)) → AreShownLawfully IsJournal done before → IsAddedLawfully IsJournal before loosely after → AreShownLawfully IsJournal (done ++ loosely ∷ []) after
+one_more {End} IsJournal done loosely before after shown (one, is, own) =
     let both : pair one ≡ pair loosely = ap (λ (t : List ℕ). (t, one.end)) own.text ∙ ap (λ (e : End). (loosely.text.items, e)) own.end_is in
     let same : texts_and_ends (before ++ one ∷ []) ≡ texts_and_ends (done ++ loosely ∷ []) =
     map-append pair before (one ∷ []) ∙ (ap (λ l. l ++ pair one ∷ []) shown.same ∙ (ap (λ p. texts_and_ends done ++ p ∷ []) both ∙ sym (map-append pair done (loosely ∷ [])))) in
-    subst (AreShownLawfully code limits (done ++ loosely ∷ [])) (sym is)
-    (record { same = same; journals = All-push (HasLawfulJournal code limits) before one shown.journals own.journal })
+    subst (AreShownLawfully IsJournal (done ++ loosely ∷ [])) (sym is)
+    (record { same = same; journals = All-push (HasLawfulJournal IsJournal) before one shown.journals own.journal })
 
 -- what no two elements have in common, no two of a first part have
-pub first_distinct : (part rest whole : List (Shown LooseTransition End)) → part ++ rest ≡ whole → AllPairs AreDistinct whole → AllPairs AreDistinct part
+pub first_distinct : {End : Type 0} (part rest whole : List (Shown LooseTransition End)) → part ++ rest ≡ whole → AllPairs AreDistinct whole → AllPairs AreDistinct part
 first_distinct part rest whole split distinct i j d less within =
     let both : AllPairs AreDistinct (part ++ rest) = subst (AllPairs AreDistinct) (sym split) distinct in
     let longer : j < length (part ++ rest) = omega (arith, within, length-append part rest) in
@@ -77,10 +57,10 @@ first_distinct part rest whole split distinct i j d less within =
     let at_j : get_or (part ++ rest) j d ≡ get_or part j d = get_or_append_left part rest d j within in
     subst (λ x. AreDistinct (get_or part i d) x) at_j (subst (λ x. AreDistinct x (get_or (part ++ rest) j d)) at_i (both i j d less longer))
 
-pub no_longer : (part rest whole : List (Shown LooseTransition End)) → part ++ rest ≡ whole → length part ≤ length whole
+pub no_longer : {End : Type 0} (part rest whole : List (Shown LooseTransition End)) → part ++ rest ≡ whole → length part ≤ length whole
 no_longer part rest whole split =
     let longer : length (part ++ rest) ≡ length whole = ap length split in
     omega (arith, length-append part rest, longer)
 
-pub is_whole : (part rest whole : List (Shown LooseTransition End)) → part ++ rest ≡ whole → rest ≡ [] → part ≡ whole
+pub is_whole : {End : Type 0} (part rest whole : List (Shown LooseTransition End)) → part ++ rest ≡ whole → rest ≡ [] → part ≡ whole
 is_whole part rest whole split none = sym (append-nil part) ∙ (ap (λ l. part ++ l) (sym none) ∙ split)

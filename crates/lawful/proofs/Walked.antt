@@ -28,15 +28,15 @@ use Rattle.looseruns.specs.LooseGoing.{GoesLooselyTo}
 use Rattle.looseruns.proofs.Moves.{moves_keep_order, moves_are_loose_run, alike_moves_on}
 use Rattle.looseruns.proofs.RunsOfMoves.{ends_alike_in}
 use Rattle.looseruns.proofs.LooseGoing.{loose_ways_go_on}
-use Rattle.looseparts.specs.PartLaws.{CoverToEnds, LeadsToEnd}
+use Rattle.looseruns.specs.ObservedEnding.{CoverToFinish, LeadsToFinish}
 use Rattle.looseparts.specs.EndingCover.{TellsWaysToEnds}
 use Rattle.loosewalks.specs.Sole.{StandsForAllLoosely, IsLikeReached}
 use Rattle.loosewalks.specs.LooseWalking.{HasWalkedLoosely}
 use Rattle.loosewalks.proofs.SoleLooseWays.{lead_alike}
-use Rattle.lawful.specs.LooseNodes.{IsReadyNode, HoldsEffect, IsLooseWayOn, IsLooseWayToEnd, AreAllLooseWays, IsExpandedAt}
+use Rattle.lawful.specs.LooseNodes.{IsReadyNode, HoldsEffect, IsLooseWayOn, IsLooseWayToEnd, LeadToFinish, AreAllLooseWays, IsExpandedAt}
 use Rattle.lawful.specs.Following.{IsArrived}
 use Rattle.lawful.specs.declared.node.LooseNode.{LooseNode}
-use Rattle.lawful.proofs.Ways.{in_state, covers_without_ends, none_to_tell}
+use Rattle.lawful.proofs.Ways.{in_state, covers_without_ends, none_finish, none_to_tell}
 
 -- where a node stands is like what a loose run comes to
 pub node_like_reached : (class : ℕ → ℕ) (code : Compiled) (limits : Limits) (node : LooseNode) (run : List LooseTransition) → StandsLoosely (HoldsEffect code) class (design_of code) limits node run → IsLikeReached class (design_of node.machine.value.code) (state_at node.machine.value)
@@ -97,12 +97,12 @@ any_weaker : {X : Type 0} (P Q : X → Type 0) (xs : List X) → ((x : X) → P 
 any_weaker P Q xs each (k, x, within, at, p) = (k, x, within, at, each x p)
 
 -- a way leads to where the run has finished from a state that is alike, too
-leads_too : (class : ℕ → ℕ) (design : Design) (limits : Limits) (s t : State) (lines others : List ℕ) (way : List LooseTransition) → IsInOrder s → IsInOrder t → AlikeIn class t s → others ≡ lines → LeadsToEnd class design limits t lines way → LeadsToEnd class design limits s others way
+leads_too : (class : ℕ → ℕ) (design : Design) (limits : Limits) (s t : State) (lines others : List ℕ) (way : List LooseTransition) → IsInOrder s → IsInOrder t → AlikeIn class t s → others ≡ lines → LeadsToFinish class design limits t lines way → LeadsToFinish class design limits s others way
 leads_too class design limits s t lines others way i j alike same (f, goes, timely, finished, prints) =
     let (k, goes', near, printed) = alike_moves_on class design (silent t) (silent s) f way j i alike goes in
     (k, goes', timely, sym near.finished ∙ finished, sym (printed refl) ∙ (prints ∙ sym same))
 
-covers_too : (class : ℕ → ℕ) (design : Design) (limits : Limits) (s t : State) (ways ends : List (List LooseTransition)) → IsInOrder s → IsInOrder t → AlikeIn class s t → CoverToEnds class design limits t ways ends → CoverToEnds class design limits s ways ends
+covers_too : (class : ℕ → ℕ) (design : Design) (limits : Limits) (s t : State) (ways ends : List (List LooseTransition)) → IsInOrder s → IsInOrder t → AlikeIn class s t → CoverToFinish class design limits t ways ends → CoverToFinish class design limits s ways ends
 covers_too class design limits s t ways ends i j alike covers transition more g end goes timely here =
     let (k, goes', near, lines) = alike_moves_on class design (silent s) (silent t) g (transition ∷ more) i j alike goes in
     let here' : EndsHere design limits k end =
@@ -110,7 +110,7 @@ covers_too class design limits s t ways ends i j alike covers transition more g 
     let back : AlikeIn class t s = states_in-sym class s t alike in
     elim (covers transition more k end goes' timely here') [
       | inl (part, rest, some, split, any) ↦ inl (part, rest, some, split, any_weaker (LeadToOneLooseNode class design limits t part) (LeadToOneLooseNode class design limits s part) ways (λ way. lead_alike class design limits t s part way j i back) any)
-      | inr (finished, any) ↦ inr (finished, any_weaker (LeadsToEnd class design limits t k.lines) (LeadsToEnd class design limits s g.lines) ends (λ way. leads_too class design limits s t k.lines g.lines way i j back (lines refl)) any)
+      | inr (finished, time, any) ↦ inr (finished, near.time ∙ (time ∙ sym alike.time), any_weaker (LeadsToFinish class design limits t k.lines) (LeadsToFinish class design limits s g.lines) ends (λ way. leads_too class design limits s t k.lines g.lines way i j back (lines refl)) any)
     ]
 
 told_too : (class : ℕ → ℕ) (design : Design) (s t : State) (ends : List (List LooseTransition)) (ended : List (EndedPath LooseTransition End)) → IsInOrder s → IsInOrder t → AlikeIn class s t → TellsWaysToEnds class design t ends ended → TellsWaysToEnds class design s ends ended
@@ -119,10 +119,16 @@ told_too class design s t ends ended i j alike told way f there goes =
     any_weaker (λ (path : EndedPath LooseTransition End). (path.printed.items ≡ k.lines) × (path.end ≡ Stopped Finish)) (λ path. (path.printed.items ≡ f.lines) × (path.end ≡ Stopped Finish)) ended
     (λ path (printed, finished). (printed ∙ sym (lines refl), finished)) (told way k there goes')
 
+finish_too : (class : ℕ → ℕ) (design : Design) (s t : State) (ends : List (List LooseTransition)) → IsInOrder s → IsInOrder t → AlikeIn class s t → LeadToFinish class design t ends → LeadToFinish class design s ends
+finish_too class design s t ends i j alike finish way f there goes =
+    let (k, goes', near, lines) = alike_moves_on class design (silent s) (silent t) f way i j alike goes in
+    near.finished ∙ finish way k there goes'
+
 all_too : (class : ℕ → ℕ) (code : Compiled) (limits : Limits) (s t : State) (xs : List (Successor LooseNode LooseTransition)) (ys : List (EndedPath LooseTransition End)) → IsInOrder s → IsInOrder t → AlikeIn class s t → AreAllLooseWays class code limits t xs ys → AreAllLooseWays class code limits s xs ys
 all_too class code limits s t xs ys i j alike all =
     record {
       ends = all.ends;
+      finish = finish_too class (design_of code) s t all.ends i j alike all.finish;
       cover = covers_too class (design_of code) limits s t (loose_ways_to xs) all.ends i j alike all.cover;
       ways_told = told_too class (design_of code) s t all.ends ys i j alike all.ways_told;
       told = λ end here. all.told end (ends_alike_in class (design_of code) limits (silent s) (silent t) end i j alike here);
@@ -166,6 +172,7 @@ arrived_all class code limits s m moves xs ys same walked some (next, is, moves_
     let all : AreAllLooseWays class code limits s (next ∷ []) ys =
     record {
       ends = [];
+      finish = none_finish class (design_of code) s;
       cover = covers_without_ends class (design_of code) limits s (next.moves.items ∷ [])
           (subst (λ (l : List LooseTransition). CoverMoves class (design_of code) limits s (l ∷ [])) (sym moves_are) sole.covers);
       ways_told = none_to_tell class (design_of code) s ys;

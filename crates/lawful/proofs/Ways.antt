@@ -38,12 +38,12 @@ use Rattle.looseruns.specs.LooseGoing.{GoesLooselyTo}
 use Rattle.looseruns.proofs.Moves.{loose_step_has_move, transition_is_timely}
 use Rattle.looseruns.proofs.LooseGoing.{no_move_stays, loose_step_goes_on, moves_lead_to_next, moves_lead_to_end}
 use Rattle.looseruns.proofs.LooseCovering.{entries_follow}
-use Rattle.looseparts.specs.PartLaws.{CoverToEnds}
+use Rattle.looseruns.specs.ObservedEnding.{CoverToFinish}
 use Rattle.looseparts.specs.EndingCover.{TellsWaysToEnds}
 use Rattle.looseparts.proofs.EndingCover.{covering_to_ends_is_covered}
 use Rattle.runs.specs.Halting.{GoesOn}
 use Rattle.runs.proofs.Halts.{only_long_turns_end}
-use Rattle.lawful.specs.LooseNodes.{IsReadyNode, HoldsEffect, searched_runs, IsLooseWayOn, IsLooseWayToEnd, IsToldHere, IsFollowedIn, AreLooseWaysFor, AreAllLooseWays}
+use Rattle.lawful.specs.LooseNodes.{IsReadyNode, HoldsEffect, searched_runs, IsLooseWayOn, IsLooseWayToEnd, IsToldHere, IsFollowedIn, AreLooseWaysFor, LeadToFinish, AreAllLooseWays}
 use Rattle.lawful.specs.Following.{TellsTurn, IsWayBy, IsAdded}
 use Rattle.lawful.specs.declared.node.LooseNode.{LooseNode}
 use Rattle.lawful.specs.declared.expand.Way.{Way}
@@ -183,8 +183,11 @@ followed_cover class design limits s ways follow transition more g end goes time
 
 -- what covers does so with no ways to ends
 
-pub covers_without_ends : (class : ℕ → ℕ) (design : Design) (limits : Limits) (s : State) (ways : List (List LooseTransition)) → CoverMoves class design limits s ways → CoverToEnds class design limits s ways []
+pub covers_without_ends : (class : ℕ → ℕ) (design : Design) (limits : Limits) (s : State) (ways : List (List LooseTransition)) → CoverMoves class design limits s ways → CoverToFinish class design limits s ways []
 covers_without_ends class design limits s ways covers transition more g end goes timely here = inl (covers transition more g end goes timely here)
+
+pub none_finish : (class : ℕ → ℕ) (design : Design) (s : State) → LeadToFinish class design s []
+none_finish class design s way f (k, less, at) goes = absurd (omega (arith, less))
 
 pub none_to_tell : (class : ℕ → ℕ) (design : Design) (s : State) (ended : List (EndedPath LooseTransition End)) → TellsWaysToEnds class design s [] ended
 none_to_tell class design s ended way f (k, less, at) goes = absurd (omega (arith, less))
@@ -202,6 +205,7 @@ all_followed class code limits s transitions successors ended order on within wa
     (transition, its, one.steps (entry, f, its, at_f) ((transition_is_timely class limits s entry transition its).0 timely)) in
     record {
       ends = [];
+      finish = none_finish class design s;
       cover = covers_without_ends class design limits s (loose_ways_to successors)
           (followed_cover class design limits s (loose_ways_to successors) (entries_follow class design limits s s (loose_ways_to successors) order order (states_in-same class s) follow));
       ways_told = none_to_tell class design s ended;
@@ -215,7 +219,7 @@ all_followed class code limits s transitions successors ended order on within wa
 
 -- the ways from a node, as those of the runs at which it stands
 
-here_or_there : (class : ℕ → ℕ) (code : Compiled) (node : LooseNode) (e : Effect) (P : Compiled → State → Type 0) → HoldsEffect code node e → P node.machine.value.code (state_at node.machine.value) → P code e.state
+pub here_or_there : (class : ℕ → ℕ) (code : Compiled) (node : LooseNode) (e : Effect) (P : Compiled → State → Type 0) → HoldsEffect code node e → P node.machine.value.code (state_at node.machine.value) → P code e.state
 here_or_there class code node e P holds p =
     subst (P code) holds.state_is (subst (λ (k : Compiled). P k (state_at node.machine.value)) holds.ready.code_is p)
 

@@ -14,7 +14,7 @@ use Rattle.explore.specs.declared.EndedPath.{EndedPath}
 use Rattle.loose.specs.declared.transition.LooseTransition.{LooseTransition}
 use Rattle.looseruns.specs.LooseMoves.{AreTimelyMoves}
 use Rattle.looseruns.specs.LooseCover.{loose_ways_to}
-use Rattle.looseparts.specs.PartLaws.{CoverToEnds}
+use Rattle.looseruns.specs.ObservedEnding.{CoverToFinish}
 use Rattle.looseparts.specs.FoundWays.{ways_in}
 use Rattle.looseparts.specs.declared.parts.CoveringWays.{CoveringWays}
 use Rattle.lawful.specs.LooseNodes.{IsLooseWayOn, IsLooseWayToEnd}
@@ -27,7 +27,7 @@ IsWithin limits entries way = AreTimelyMoves limits way × (entries + length way
 -- Ways by parts stand for all loose runs from where a machine stands: they cover whatever leads on, each of them keeps within the limits, and
 -- nobody's turn is too long there.
 pub record StandForAll (class : ℕ → ℕ) (limits : Limits) (m : MachineView) (found : CoveringWays) : Type 0 where
-  pub cover : CoverToEnds class (design_of m.code) limits (state_at m) (ways_in found.ways.items) (ways_in found.ends.items)
+  pub cover : CoverToFinish class (design_of m.code) limits (state_at m) (ways_in found.ways.items) (ways_in found.ends.items)
   pub short : (p : ℕ) → HasLongTurn (design_of m.code) (state_at m) p → ⊥
   pub ways_within : All (IsWithin limits m.core.entries) (ways_in found.ways.items)
   pub ends_within : All (IsWithin limits m.core.entries) (ways_in found.ends.items)

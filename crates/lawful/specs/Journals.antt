@@ -1,50 +1,57 @@
--- The lawful journals of what a search of loose runs shows.
+-- The lawful journals of what a search of loose runs shows. How a run ends is told as the search tells it, and what a lawful journal of a text and
+-- such an end is, a relation says.
 use Rattle.std.specs.Prelude.{◌≡◌, ◌⊎◌, ℕ, Bool, true, List, [], ◌∷◌, ◌++◌, map, Option, None, Some, IfSome}
-use Rattle.std.specs.List.{All}
+use Rattle.std.specs.List.{All, Any}
 use Rattle.model.specs.declared.entry.Entry.{Entry}
 use Rattle.model.specs.declared.end.Limits.{Limits}
-use Rattle.model.specs.declared.end.End.{End}
+use Rattle.model.specs.Design.{Design}
 use Rattle.model.specs.Texts.{IsEndlessJournal}
-use Rattle.design.specs.Compiled.{Compiled, design_of}
 use Rattle.explore.specs.declared.Explored.{Explored}
 use Rattle.explore.specs.declared.Shown.{Shown}
 use Rattle.explore.specs.declared.stopped.Stopped.{Stopped}
 use Rattle.explore.specs.declared.stopped.Stopped.TheVariants as stop
 use Rattle.loose.specs.declared.transition.LooseTransition.{LooseTransition}
-use Rattle.loosejournals.specs.FoundJournals.{IsJournalOf}
+
+-- says which journals are lawful ones of a text and an end
+abbrev pub JournalRelation : Type 0 → Type 1
+JournalRelation End = List ℕ → End → List Entry → Type 0
 
 -- the texts and the ends that are shown, without the moves
-abbrev pub texts_and_ends : {Move : Type 0} → List (Shown Move End) → List (List ℕ × End)
+abbrev pub texts_and_ends : {Move End : Type 0} → List (Shown Move End) → List (List ℕ × End)
 texts_and_ends shown = map (λ s. (s.text.items, s.end)) shown
 
+-- a text and an end are among these
+abbrev pub AreAmong : {End : Type 0} → List (List ℕ × End) → List ℕ → End → Type 0
+AreAmong told text end = Any (λ pair. (pair.0 ≡ text) × (pair.1 ≡ end)) told
+
 -- what is shown has a lawful journal of its text and its end beside it
-abbrev pub HasLawfulJournal : Compiled → Limits → Shown Entry End → Type 0
-HasLawfulJournal code limits shown = IsJournalOf code limits shown.text.items shown.end shown.moves.items
+abbrev pub HasLawfulJournal : {End : Type 0} → JournalRelation End → Shown Entry End → Type 0
+HasLawfulJournal IsJournal shown = IsJournal shown.text.items shown.end shown.moves.items
 
 -- the same text and the same end are shown, and a lawful journal of them
-pub record IsShownLawfully (code : Compiled) (limits : Limits) (shown : Shown LooseTransition End) (lawful : Shown Entry End) : Type 0 where
+pub record IsShownLawfully {End : Type 0} (IsJournal : JournalRelation End) (shown : Shown LooseTransition End) (lawful : Shown Entry End) : Type 0 where
   pub text : lawful.text.items ≡ shown.text.items
   pub end_is : lawful.end ≡ shown.end
-  pub journal : HasLawfulJournal code limits lawful
+  pub journal : HasLawfulJournal IsJournal lawful
 
 -- the same texts and ends are shown, in their order, and a lawful journal of each
-pub record AreShownLawfully (code : Compiled) (limits : Limits) (shown : List (Shown LooseTransition End)) (lawful : List (Shown Entry End)) : Type 0 where
+pub record AreShownLawfully {End : Type 0} (IsJournal : JournalRelation End) (shown : List (Shown LooseTransition End)) (lawful : List (Shown Entry End)) : Type 0 where
   pub same : texts_and_ends lawful ≡ texts_and_ends shown
-  pub journals : All (HasLawfulJournal code limits) lawful
+  pub journals : All (HasLawfulJournal IsJournal) lawful
 
 -- a text and an end were added with a lawful journal of them
-abbrev pub IsAddedLawfully : Compiled → Limits → List (Shown Entry End) → Shown LooseTransition End → List (Shown Entry End) → Type 0
-IsAddedLawfully code limits before loosely after =
-    (lawful : Shown Entry End) × (after ≡ before ++ lawful ∷ []) × IsShownLawfully code limits loosely lawful
+abbrev pub IsAddedLawfully : {End : Type 0} → JournalRelation End → List (Shown Entry End) → Shown LooseTransition End → List (Shown Entry End) → Type 0
+IsAddedLawfully {End} IsJournal before loosely after =
+    (lawful : Shown Entry End) × (after ≡ before ++ lawful ∷ []) × IsShownLawfully IsJournal loosely lawful
 
 -- The same texts and ends are shown as in a first part of what loose runs show, with a lawful journal of each. Where nothing was left out,
 -- that part is the whole.
-pub record AreFirstShownLawfully (code : Compiled) (limits : Limits) (shown : List (Shown LooseTransition End)) (lawful : List (Shown Entry End)) (whole : Bool) : Type 0 where
+pub record AreFirstShownLawfully {End : Type 0} (IsJournal : JournalRelation End) (shown : List (Shown LooseTransition End)) (lawful : List (Shown Entry End)) (whole : Bool) : Type 0 where
   pub part : List (Shown LooseTransition End)
   pub rest : List (Shown LooseTransition End)
   pub split : part ++ rest ≡ shown
   pub all : whole ≡ true → rest ≡ []
-  pub shown_is : AreShownLawfully code limits part lawful
+  pub shown_is : AreShownLawfully IsJournal part lawful
 
 -- why a search stopped that lacks journals for want of memory: that, if it had no other reason but the most texts
 abbrev pub memory_or : Option Stopped → Option Stopped
@@ -61,10 +68,10 @@ IsStoppedBy before whole stopped = ((whole ≡ true) × (stopped ≡ before)) �
 
 -- A search found the same texts and ends, or the first of them, with a lawful journal of each, in as many nodes. It stopped for the same
 -- reason where none was left out. A journal from which no run is said to come to an end is such a lawful one.
-pub record IsFoundLawfully (code : Compiled) (limits : Limits) (loosely : Explored LooseTransition End) (lawful : Explored Entry End) : Type 0 where
+pub record IsFoundLawfully {End : Type 0} (IsJournal : JournalRelation End) (design : Design) (limits : Limits) (loosely : Explored LooseTransition End) (lawful : Explored Entry End) : Type 0 where
   -- whether none was left out
   pub whole : Bool
-  pub shown_is : AreFirstShownLawfully code limits loosely.shown.items lawful.shown.items whole
+  pub shown_is : AreFirstShownLawfully IsJournal loosely.shown.items lawful.shown.items whole
   pub stopped_is : IsStoppedBy loosely.stopped whole lawful.stopped
   pub nodes_are : lawful.nodes ≡ loosely.nodes
-  pub never_ends : IfSome lawful.endless (λ journal. IsEndlessJournal (design_of code) limits journal.items)
+  pub never_ends : IfSome lawful.endless (λ journal. IsEndlessJournal design limits journal.items)

@@ -1,16 +1,23 @@
 -- What a search of lawful orders answers.
-use Rattle.std.specs.Prelude.{◌≡◌, ◌<◌, ◌≤◌, length, None, Some, IfSome}
+use Rattle.std.specs.Prelude.{◌≡◌, ℕ, ◌<◌, ◌≤◌, List, length, None, Some, IfSome}
 use Rattle.std.specs.List.{All, AllPairs}
 use Rattle.model.specs.declared.entry.Entry.{Entry}
 use Rattle.model.specs.declared.end.Limits.{Limits}
-use Rattle.model.specs.declared.end.End.{End}
 use Rattle.model.specs.Design.{Design}
 use Rattle.model.specs.Runs.{last_time}
-use Rattle.model.specs.Texts.{AreAllTexts, IsEndlessJournal, IsLawfulText, IsWithinLimits}
+use Rattle.model.specs.declared.end.End.{End}
+use Rattle.model.specs.Texts.{AreAllTexts, IsEndlessJournal}
+use Rattle.design.specs.Compiled.{Compiled, design_of}
 use Rattle.explore.specs.declared.Bounds.{Bounds}
 use Rattle.explore.specs.declared.Explored.{Explored}
 use Rattle.explore.specs.declared.stopped.Stopped.TheVariants as stop
-use Rattle.explore.specs.Search.{AreDistinct, IsShown}
+use Rattle.explore.specs.SearchedRuns.{Runs}
+use Rattle.explore.specs.Search.{AreAllShown, AreDistinct}
+use Rattle.loose.specs.declared.transition.LooseTransition.{LooseTransition}
+use Rattle.lawful.specs.declared.node.LooseNode.{LooseNode}
+use Rattle.looseruns.specs.ObservedJournals.{Observer, SeenEnd, AreAllObservedTexts}
+use Rattle.loosejournals.specs.FoundJournals.{IsJournalOf, IsObservedJournalOf}
+use Rattle.lawful.specs.Journals.{JournalRelation, HasLawfulJournal, AreAmong, texts_and_ends}
 
 -- what a search asks of its limits and its bounds: room for a node, and for an entry, and no time past the last one
 pub record MaySearch (limits : Limits) (bounds : Bounds) : Type 0 where
@@ -18,19 +25,34 @@ pub record MaySearch (limits : Limits) (bounds : Bounds) : Type 0 where
   pub some_entry : 0 < limits.max_entries
   pub in_time : IfSome limits.until (λ until. until ≤ last_time)
 
+-- A search found texts and ends of loose runs: no two are the same; they are all where it wasn't stopped; and it kept to its bounds, and to the one
+-- that stopped it.
+pub record AreFoundLoosely {End : Type 0} (runs : Runs LooseTransition LooseNode End) (bounds : Bounds) (found : Explored LooseTransition End) : Type 0 where
+  pub distinct : AllPairs AreDistinct found.shown.items
+  pub all : found.stopped ≡ None → AreAllShown runs found.shown.items
+  pub few : found.nodes ≤ bounds.nodes
+  pub few_shown : length found.shown.items ≤ bounds.shown
+  pub nodes_full : found.stopped ≡ Some stop.Nodes → found.nodes ≡ bounds.nodes
+  pub shown_full : found.stopped ≡ Some stop.Shown → length found.shown.items ≡ bounds.shown
+
 -- Each text that is shown is that of the lawful journal beside it, and so is its end; no two have one text and one end; they are all where
 -- the search wasn't stopped; the search kept to its bounds, and to the one that stopped it; and what is said to be endless is.
-pub record AreLawfulOrders (design : Design) (limits : Limits) (bounds : Bounds) (found : Explored Entry End) : Type 0 where
-  pub sound : All (λ s. IsLawfulText design limits s.moves.items s.text.items s.end) found.shown.items
+pub record AreLawfulOrders {End : Type 0} (IsJournal : JournalRelation End) (AreAll : List (List ℕ × End) → Type 0) (design : Design) (limits : Limits) (bounds : Bounds) (found : Explored Entry End) : Type 0 where
+  pub journals : All (HasLawfulJournal IsJournal) found.shown.items
   pub distinct : AllPairs AreDistinct found.shown.items
-  pub within : All (λ s. IsWithinLimits limits s.moves.items) found.shown.items
-  pub all : found.stopped ≡ None → AreAllTexts design limits (IsShown found.shown.items)
+  pub all : found.stopped ≡ None → AreAll (texts_and_ends found.shown.items)
   pub few : found.nodes ≤ bounds.nodes
   pub few_shown : length found.shown.items ≤ bounds.shown
   pub nodes_full : found.stopped ≡ Some stop.Nodes → found.nodes ≡ bounds.nodes
   pub shown_full : found.stopped ≡ Some stop.Shown → length found.shown.items ≡ bounds.shown
   pub never_ends : IfSome found.endless (λ journal. IsEndlessJournal design limits journal.items)
 
--- nothing was found, of whichever design and within whichever limits and bounds, and the search says that it was stopped
-abbrev pub IsNothingFound : Explored Entry End → Type 0
-IsNothingFound found = (design : Design) (limits : Limits) (bounds : Bounds) → AreLawfulOrders design limits bounds found
+-- the same of lines and how runs end
+abbrev pub AreLinesOrders : Compiled → Limits → Bounds → Explored Entry End → Type 0
+AreLinesOrders code limits bounds found =
+    AreLawfulOrders (IsJournalOf code limits) (λ told. AreAllTexts (design_of code) limits (AreAmong told)) (design_of code) limits bounds found
+
+-- the same of what an observer sees
+abbrev pub AreObservedOrders : Compiled → Limits → Bounds → Observer → Explored Entry SeenEnd → Type 0
+AreObservedOrders code limits bounds observe found =
+    AreLawfulOrders (IsObservedJournalOf code limits observe) (λ told. AreAllObservedTexts (design_of code) limits observe (AreAmong told)) (design_of code) limits bounds found

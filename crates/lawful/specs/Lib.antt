@@ -4,4 +4,6 @@ pub mod Following
 pub mod ByParts
 pub mod Journals
 pub mod LawfulOrders
+pub mod ObservedNodes
+pub mod ObservedWays
 pub mod Serving

@@ -1,5 +1,5 @@
 -- What a node of the search holds, and what comes of following the loose transitions from it.
-use Rattle.std.specs.Prelude.{◌≡◌, ℕ, ◌<◌, ◌≤◌, List, [], ◌∷◌, Some, IsTrue}
+use Rattle.std.specs.Prelude.{◌≡◌, ℕ, ◌<◌, ◌≤◌, true, List, [], ◌∷◌, Some, IsTrue}
 use Rattle.std.specs.List.{All, Any, Contains}
 use Rattle.std.specs.Option.{ForSome}
 use Rattle.model.specs.declared.entry.Entry.{Entry}
@@ -10,6 +10,7 @@ use Rattle.model.specs.declared.end.End.TheVariants.{Stopped}
 use Rattle.model.specs.States.{State}
 use Rattle.model.specs.Runs.{Effect, silent, last_time, HasLongTurn}
 use Rattle.model.specs.Texts.{EndsHere}
+use Rattle.model.specs.Design.{Design}
 use Rattle.design.specs.Compiled.{Compiled, design_of}
 use Rattle.design.specs.DesignInvariant.{controls_of}
 use Rattle.orders.specs.Alike.{IsInOrder}
@@ -22,11 +23,11 @@ use Rattle.explore.specs.declared.Successor.{Successor}
 use Rattle.explore.specs.declared.EndedPath.{EndedPath}
 use Rattle.explore.specs.declared.Expanded.{Expanded}
 use Rattle.explore.specs.SearchedRuns.{Runs}
-use Rattle.looseruns.specs.LooseMoves.{IsTimelyMove}
+use Rattle.looseruns.specs.LooseMoves.{moves_from, IsTimelyMove}
 use Rattle.looseruns.specs.LooseRuns.{loose_runs_of}
 use Rattle.looseruns.specs.LooseCover.{loose_ways_to}
 use Rattle.looseruns.specs.LooseGoing.{GoesLooselyTo}
-use Rattle.looseparts.specs.PartLaws.{CoverToEnds}
+use Rattle.looseruns.specs.ObservedEnding.{CoverToFinish}
 use Rattle.looseparts.specs.EndingCover.{TellsWaysToEnds}
 use Rattle.lawful.specs.declared.node.LooseNode.{LooseNode}
 
@@ -95,12 +96,18 @@ pub record AreLooseWaysFor (class : ℕ → ℕ) (code : Compiled) (limits : Lim
   pub ends : All (IsLooseWayToEnd class code limits s) ended
   pub followed : All (IsFollowedIn class code limits s successors ended) transitions
 
+-- each of these ways leads from a state to where the run has finished
+abbrev pub LeadToFinish : (ℕ → ℕ) → Design → State → List (List LooseTransition) → Type 0
+LeadToFinish class design s ends =
+    (way : List LooseTransition) (f : Effect) → Contains ends way → moves_from class design (silent s) way ≡ Some f → f.state.finished ≡ true
+
 -- Nothing is left out: the ways to successors, and others to where the run has finished, cover whatever leads on from the state; what these
 -- others print is told, and each end that a run may have here is told.
 pub record AreAllLooseWays (class : ℕ → ℕ) (code : Compiled) (limits : Limits) (s : State) (successors : List (Successor LooseNode LooseTransition)) (ended : List (EndedPath LooseTransition End)) : Type 0 where
   -- the ways to where the run has finished
   pub ends : List (List LooseTransition)
-  pub cover : CoverToEnds class (design_of code) limits s (loose_ways_to successors) ends
+  pub finish : LeadToFinish class (design_of code) s ends
+  pub cover : CoverToFinish class (design_of code) limits s (loose_ways_to successors) ends
   pub ways_told : TellsWaysToEnds class (design_of code) s ends ended
   pub told : (end : End) → EndsHere (design_of code) limits (silent s) end → IsToldHere ended end
 

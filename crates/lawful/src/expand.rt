@@ -22,7 +22,7 @@ use crate::search_room::SearchRoom;
 use explore::{EndedPath, Expanded, Successor};
 use loose::transition::LooseTransition;
 use loosesteps::{loose_choices, take_loosely};
-use loosewalks::{copy_of, walk_loosely};
+use loosewalks::{WalkRules, WalkStops, copy_of, walk_loosely};
 use model::end::{End, Limits, Why};
 use regions::{Machine, TakeFault};
 use runs::halting::{end_at, is_timely};
@@ -30,12 +30,13 @@ use settling::AnalyzedDesign;
 use std::alloc::{AllocError, Global};
 use turn::TurnLog;
 
-/// By what the ways from a node are followed: the classes of the registers, and the limits of a run.
+/// By what the ways from a node are followed: the classes of the registers, the limits of a run, and where walks stop.
 #[derive(Clone, Copy)]
 pub(crate) struct ExpandScope<'a> {
     pub(crate) alloc: Global,
     pub(crate) classes: &'a [u32],
     pub(crate) limits: Limits,
+    pub(crate) stops: WalkStops,
 }
 
 /// What one transition leads to.
@@ -285,22 +286,21 @@ fn walk_with(
     if machine.is_finished() {
         return Ok(Vec::new(scope.alloc));
     }
+    let rules = WalkRules {
+        classes: scope.classes,
+        limits: scope.limits,
+        stops: scope.stops,
+    };
     machine.exchange_log(&mut room.log);
-    let walked = walk_loosely(
-        scope.alloc,
-        analyzed_design,
-        scope.classes,
-        scope.limits,
-        &mut room.walk,
-        machine,
-    );
+    let walked = walk_loosely(scope.alloc, analyzed_design, rules, &mut room.walk, machine);
     machine.exchange_log(&mut room.log);
     walked
 }
 
-/// Follows each way from where a machine stands. Where one way stands for all it goes on by that, up to the next choice or for some hundred
-/// steps; else by ways of parts that are apart, where these stand for all; else it follows each loose transition that may be taken. Ways are
-/// left out where the run has as many entries as it may have, and goes on from there: no way leads past that.
+/// Follows each way from where a machine stands. Where one way stands for all it goes on by that, up to the next choice, or before time passes
+/// where walks stop there, or for some hundred steps; else by ways of parts that are apart, where these stand for all; else it follows each
+/// loose transition that may be taken. Ways are left out where the run has as many entries as it may have, and goes on from there: no way
+/// leads past that.
 pub(crate) fn expand<'d>(
     scope: ExpandScope<'_>,
     analyzed_design: &AnalyzedDesign<'_>,

@@ -1,35 +1,33 @@
 //! The lawful journals of what a search of loose runs found.
 ghost use Rattle.std.specs.Prelude.{◌≡◌, ◌≤◌, true, Some, IfOk, IfSome, OnErr};
 ghost use Rattle.model.specs.Runs.{last_time};
+ghost use Rattle.design.specs.Compiled.{design_of};
 ghost use Rattle.loose.specs.Classes.{class_in};
 ghost use Rattle.explore.specs.Search.{IsEndless};
 ghost use Rattle.lawful.specs.LooseNodes.{searched_runs};
 ghost use Rattle.lawful.specs.Journals.{AreFirstShownLawfully, IsAddedLawfully, IsFoundLawfully, IsShownLawfully, IsStoppedBy, memory_or};
 
 use crate::endless::endless_journal;
+use crate::journal_search::JournalSearch;
 use explore::{Explored, Shown, Stopped};
 use loose::transition::LooseTransition;
-use loosejournals::{LeadScope, LooseRun, lawful_journal};
-use model::end::End;
+use loosejournals::LeadScope;
 use model::entry::Entry;
 use std::alloc::AllocError;
 
 // A text and an end with a lawful journal of them, in the place of the loose run. None where no journal is found. Fails where memory is
 // refused.
-fn with_journal(
+fn with_journal<S: JournalSearch>(
+    kind: &S,
     scope: LeadScope<'_>,
-    shown: Shown<LooseTransition, End>,
-) -> Result<Option<Shown<Entry, End>>, AllocError>
+    shown: Shown<LooseTransition, S::End>,
+) -> Result<Option<Shown<Entry, S::End>>, AllocError>
     requires until { IfSome scope.limits.until (λ until. until ≤ last_time) }
-    ensures { IfOk result (λ found. IfSome found (IsShownLawfully scope.entry.design.now scope.entry.limits shown)) }
+    ensures { IfOk result (λ found. IfSome found (IsShownLawfully (S.is_journal kind.now scope.entry.design.now scope.entry.limits) shown)) }
 {
-    let Shown { text, end, moves } = shown;
-    let run = LooseRun {
-        moves: moves.as_slice(),
-        text: text.as_slice(),
-        end,
-    };
-    match lawful_journal(scope, run)? {
+    let found = kind.journal(scope, &shown)?;
+    let Shown { text, end, .. } = shown;
+    match found {
         Some(journal) => Ok(Some(Shown {
             text,
             end,
@@ -40,23 +38,24 @@ fn with_journal(
 }
 
 // What has a lawful journal of what loose runs show, and whether that is all of it.
-struct ShownLawfully {
-    shown: Vec<Shown<Entry, End>>,
+struct ShownLawfully<E> {
+    shown: Vec<Shown<Entry, E>>,
     whole: bool,
 }
 
 // Adds a text and an end with a lawful journal of them. Answers whether one was found. Fails where memory is refused, and then none is
 // added.
-fn add_journal(
+fn add_journal<S: JournalSearch>(
+    kind: &S,
     scope: LeadScope<'_>,
-    shown: Shown<LooseTransition, End>,
-    lawful: &mut Vec<Shown<Entry, End>>,
+    shown: Shown<LooseTransition, S::End>,
+    lawful: &mut Vec<Shown<Entry, S::End>>,
 ) -> Result<bool, AllocError>
     requires until { IfSome scope.limits.until (λ until. until ≤ last_time) }
-    ensures added { IfOk result (λ added. added ≡ true → IsAddedLawfully scope.entry.design.now scope.entry.limits lawful.old.items shown lawful.new.items) }
+    ensures added { IfOk result (λ added. added ≡ true → IsAddedLawfully (S.is_journal kind.now scope.entry.design.now scope.entry.limits) lawful.old.items shown lawful.new.items) }
     ensures refused { OnErr result (lawful.new.items ≡ lawful.old.items) }
 {
-    match with_journal(scope, shown)? {
+    match with_journal(kind, scope, shown)? {
         Some(one) => {
             lawful.push(one)?;
             Ok(true)
@@ -67,16 +66,17 @@ fn add_journal(
 
 // The same texts and ends in the same order, with a lawful journal of each. Where memory is refused to one, those before it. None where no
 // lawful journal is found of one.
-fn with_journals(
+fn with_journals<S: JournalSearch>(
+    kind: &S,
     scope: LeadScope<'_>,
-    shown: Vec<Shown<LooseTransition, End>>,
-) -> Option<ShownLawfully>
+    shown: Vec<Shown<LooseTransition, S::End>>,
+) -> Option<ShownLawfully<S::End>>
     requires until { IfSome scope.limits.until (λ until. until ≤ last_time) }
-    ensures { IfSome result (λ lawful. AreFirstShownLawfully scope.entry.design.now scope.entry.limits shown.items lawful.shown.items lawful.whole) }
+    ensures { IfSome result (λ lawful. AreFirstShownLawfully (S.is_journal kind.now scope.entry.design.now scope.entry.limits) shown.items lawful.shown.items lawful.whole) }
 {
     let mut lawful = Vec::new(scope.alloc);
     for loosely in shown {
-        match add_journal(scope, loosely, &mut lawful) {
+        match add_journal(kind, scope, loosely, &mut lawful) {
             Ok(added) => {
                 if !added {
                     return None;
@@ -122,13 +122,14 @@ fn stopped_by(stopped: Option<Stopped>, whole: bool) -> Option<Stopped>
 /// What a search of loose runs found, with lawful journals in the place of its runs: one of each text and end that is shown, and one from
 /// which no run comes to an end, where it found such a run. Where memory is refused to a journal, what has one so far, and the search says
 /// that it stopped. None where no lawful journal is found of one of these runs.
-pub(crate) fn with_all_journals(
+pub(crate) fn with_all_journals<S: JournalSearch>(
+    kind: &S,
     scope: LeadScope<'_>,
-    explored: Explored<LooseTransition, End>,
-) -> Option<Explored<Entry, End>>
+    explored: Explored<LooseTransition, S::End>,
+) -> Option<Explored<Entry, S::End>>
     requires until { IfSome scope.limits.until (λ until. until ≤ last_time) }
     requires endless { IfSome explored.endless (λ moves. IsEndless (searched_runs scope.design.now (class_in scope.classes.now) scope.limits) moves.items) }
-    ensures { IfSome result (IsFoundLawfully scope.entry.design.now scope.entry.limits explored) }
+    ensures { IfSome result (IsFoundLawfully (S.is_journal kind.now scope.entry.design.now scope.entry.limits) (design_of scope.entry.design.now) scope.entry.limits explored) }
 {
     let Explored {
         shown,
@@ -136,7 +137,7 @@ pub(crate) fn with_all_journals(
         nodes,
         endless,
     } = explored;
-    let ShownLawfully { shown, whole } = with_journals(scope, shown)?;
+    let ShownLawfully { shown, whole } = with_journals(kind, scope, shown)?;
     let moves = match endless {
         Some(moves) => moves,
         None => {

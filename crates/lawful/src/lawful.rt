@@ -1,19 +1,25 @@
 //! The lawful orders of a design, found by its loose runs.
-ghost use Rattle.std.specs.Prelude.{◌≡◌, ◌<◌, ◌≤◌, length, None, Some, IfSome};
+ghost use Rattle.std.specs.Prelude.{◌≡◌, ◌<◌, ◌≤◌, [], length, None, Some, IfSome};
 ghost use Rattle.std.specs.List.{All, AllPairs, Any};
 ghost use Rattle.model.specs.Runs.{last_time};
 ghost use Rattle.model.specs.Texts.{AreAllTexts, IsEndlessJournal, IsLawfulText, IsWithinLimits};
 ghost use Rattle.design.specs.Compiled.{design_of};
 ghost use Rattle.explore.specs.declared.stopped.Stopped.TheVariants as stop;
-ghost use Rattle.lawful.specs.LawfulOrders.{AreLawfulOrders, IsNothingFound, MaySearch};
+ghost use Rattle.looseruns.specs.ObservedJournals.{AreAllObservedTexts, IsObservedText};
+ghost use Rattle.observers.specs.Observers.{observer_of};
+ghost use Rattle.lawful.specs.LawfulOrders.{AreLinesOrders, AreObservedOrders, MaySearch};
 
+use crate::journal_search::LinesAlone;
 use crate::journals::with_all_journals;
+use crate::observed_runs::ObservedRuns;
 use crate::search::LooseRuns;
 use design::Design;
 use explore::{Bounds, Explored, Stopped, explore};
 use loosejournals::{LeadScope, classes_of};
+use looseruns::observed_end::ObservedEnd;
 use model::end::{End, Limits};
 use model::entry::Entry;
+use observers::Observing;
 use progress::Progress;
 use settling::AnalyzedDesign;
 use std::alloc::Global;
@@ -28,8 +34,11 @@ struct Scope<'a> {
 }
 
 // What is found where memory is refused to a search from its start, or no text has a lawful journal.
-fn nothing_found(alloc: Global) -> Explored<Entry, End>
-    ensures { IsNothingFound result }
+fn nothing_found<E: Drop>(alloc: Global) -> Explored<Entry, E>
+    ensures shown { result.shown.items ≡ [] }
+    ensures stopped { result.stopped ≡ Some stop.Memory }
+    ensures nodes { result.nodes ≡ 0 }
+    ensures endless { result.endless ≡ None }
 {
     Explored {
         shown: Vec::new(alloc),
@@ -49,7 +58,7 @@ fn orders_by<P: Progress>(
     classes: Vec<u32>,
 ) -> Option<Explored<Entry, End>>
     requires { MaySearch scope.limits scope.bounds }
-    ensures { IfSome result (AreLawfulOrders (design_of scope.entry.design.now) scope.entry.limits scope.entry.bounds) }
+    ensures { IfSome result (AreLinesOrders scope.entry.design.now scope.entry.limits scope.entry.bounds) }
 {
     let Scope {
         alloc,
@@ -65,14 +74,14 @@ fn orders_by<P: Progress>(
         limits,
         classes: orders.classes.as_slice(),
     };
-    with_all_journals(leading, explored)
+    with_all_journals(&LinesAlone, leading, explored)
 }
 
 // Searches by the classes that the design's nonblocking assignments need, and where these don't tell with all registers in one class: then
 // each loose run is a lawful one.
 fn orders_of<P: Progress>(scope: Scope<'_>, progress: &P) -> Explored<Entry, End>
     requires { MaySearch scope.limits scope.bounds }
-    ensures { AreLawfulOrders (design_of scope.entry.design.now) scope.entry.limits scope.entry.bounds result }
+    ensures { AreLinesOrders scope.entry.design.now scope.entry.limits scope.entry.bounds result }
 {
     let classes = match classes_of(scope.alloc, scope.design) {
         Ok(classes) => classes,
@@ -83,6 +92,54 @@ fn orders_of<P: Progress>(scope: Scope<'_>, progress: &P) -> Explored<Entry, End
     }
     // a register that isn't listed is of class 0
     match orders_by(scope, progress, Vec::new(scope.alloc)) {
+        Some(explored) => explored,
+        None => nothing_found(scope.alloc),
+    }
+}
+
+// Searches them likewise for what is observed of them.
+fn observed_by<P: Progress>(
+    scope: Scope<'_>,
+    observing: &Observing,
+    progress: &P,
+    classes: Vec<u32>,
+) -> Option<Explored<Entry, ObservedEnd>>
+    requires { MaySearch scope.limits scope.bounds }
+    ensures { IfSome result (AreObservedOrders scope.entry.design.now scope.entry.limits scope.entry.bounds (observer_of observing.now)) }
+{
+    let analyzed_design = AnalyzedDesign::of(scope.alloc, scope.design);
+    let loosely = LooseRuns::new(analyzed_design, classes, scope.limits);
+    let orders = ObservedRuns {
+        loosely: &loosely,
+        observing,
+    };
+    let explored = explore(scope.alloc, &orders, scope.bounds, progress);
+    let leading = LeadScope {
+        alloc: scope.alloc,
+        design: scope.design,
+        limits: scope.limits,
+        classes: loosely.classes.as_slice(),
+    };
+    with_all_journals(observing, leading, explored)
+}
+
+// Searches so by the classes that are needed, and else with all registers in one class.
+fn observed_of<P: Progress>(
+    scope: Scope<'_>,
+    observing: &Observing,
+    progress: &P,
+) -> Explored<Entry, ObservedEnd>
+    requires { MaySearch scope.limits scope.bounds }
+    ensures { AreObservedOrders scope.entry.design.now scope.entry.limits scope.entry.bounds (observer_of observing.now) result }
+{
+    let classes = match classes_of(scope.alloc, scope.design) {
+        Ok(classes) => classes,
+        Err(_) => return nothing_found(scope.alloc),
+    };
+    if let Some(explored) = observed_by(scope, observing, progress, classes) {
+        return explored;
+    }
+    match observed_by(scope, observing, progress, Vec::new(scope.alloc)) {
         Some(explored) => explored,
         None => nothing_found(scope.alloc),
     }
@@ -124,4 +181,41 @@ pub fn lawful_orders<P: Progress>(
         bounds,
     };
     orders_of(scope, progress)
+}
+
+/// Searches all lawful orders of a design within these limits (11.4) for all that is observed of them: the lines in order, and what an observer sees
+/// whenever time passes, and of the last state. Each observed text that is shown is that of the lawful journal beside it, and so is its observed
+/// end; no two have one text and one end; and where the search wasn't stopped, every lawful journal in time that ends, but by the most entries or
+/// for want of memory, has an observed text and an observed end that are shown. All else is as `lawful_orders` tells it.
+///
+/// Loose runs go on by themselves no further than to where time passes, where what the observer sees is taken. So there is a state for each
+/// time, at least, and runs of which something else was seen never meet again.
+pub fn observed_orders<P: Progress>(
+    alloc: Global,
+    design: &Design,
+    limits: Limits,
+    bounds: Bounds,
+    observing: &Observing,
+    progress: &P,
+) -> Explored<Entry, ObservedEnd>
+    requires room { 0 < bounds.nodes }
+    requires some_entry { 0 < limits.max_entries }
+    requires until { IfSome limits.until (λ until. until ≤ last_time) }
+    ensures sound { All (λ s. IsObservedText (design_of design.now) limits (observer_of observing.now) s.moves.items s.text.items s.end) result.shown.items }
+    ensures distinct { AllPairs (λ s t. s.text.items ≡ t.text.items → s.end ≡ t.end → ⊥) result.shown.items }
+    ensures within { All (λ s. IsWithinLimits limits s.moves.items) result.shown.items }
+    ensures all { result.stopped ≡ None → AreAllObservedTexts (design_of design.now) limits (observer_of observing.now) (λ text end. Any (λ s. (s.text.items ≡ text) × (s.end ≡ end)) result.shown.items) }
+    ensures few { result.nodes ≤ bounds.nodes }
+    ensures few_shown { length result.shown.items ≤ bounds.shown }
+    ensures nodes { result.stopped ≡ Some stop.Nodes → result.nodes ≡ bounds.nodes }
+    ensures full { result.stopped ≡ Some stop.Shown → length result.shown.items ≡ bounds.shown }
+    ensures endless { IfSome result.endless (λ journal. IsEndlessJournal (design_of design.now) limits journal.items) }
+{
+    let scope = Scope {
+        alloc,
+        design,
+        limits,
+        bounds,
+    };
+    observed_of(scope, observing, progress)
 }

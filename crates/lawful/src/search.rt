@@ -3,15 +3,18 @@ ghost use Rattle.std.specs.Prelude.{◌≡◌, [], IfOk};
 ghost use Rattle.model.specs.States.{start};
 ghost use Rattle.regions.specs.Machine.{state_at};
 ghost use Rattle.design.specs.Compiled.{design_of};
-ghost use Rattle.lawful.specs.LooseNodes.{AreBounded};
+ghost use Rattle.explore.specs.Search.{IsReached};
+ghost use Rattle.loose.specs.Classes.{class_in};
+ghost use Rattle.lawful.specs.LooseNodes.{AreBounded, IsExpandedAt, searched_runs};
 
 use crate::again::{again, weight};
-use crate::expand::{ExpandScope, expand};
+use crate::expand::{ExpandScope, LooseWays, expand};
 use crate::node::LooseNode;
 use crate::search_room::SearchRoom;
 use design::Design;
 use explore::{Expanded, Orders};
 use loose::transition::LooseTransition;
+use loosewalks::WalkStops;
 use model::end::{End, Limits};
 use regions::Machine;
 use settling::AnalyzedDesign;
@@ -58,13 +61,31 @@ impl<'d> LooseRuns<'d> {
             limits,
         }
     }
+
+    /// Follows the ways that go on loosely from a node in time, by walks that stop so, with the combinational processes that were found once.
+    pub(crate) fn ways(
+        &self,
+        alloc: Global,
+        stops: WalkStops,
+        room: &mut SearchRoom,
+        node: LooseNode<'d>,
+    ) -> Result<LooseWays<'d>, AllocError>
+        requires { IsReached (searched_runs self.now.analyzed_design (class_in self.now.classes.items) self.now.limits) node }
+        ensures { IfOk result (IsExpandedAt (class_in self.now.classes.items) node.entry.machine.value.code self.now.limits (state_at node.entry.machine.value)) }
+    {
+        let scope = ExpandScope {
+            alloc,
+            classes: self.classes.as_slice(),
+            limits: self.limits,
+            stops,
+        };
+        expand(scope, &self.analyzed_design, room, node.machine)
+    }
 }
 
 impl<'d> Orders for LooseRuns<'d> {
     ghost use Rattle.std.specs.Prelude.{refl};
-    ghost use Rattle.loose.specs.Classes.{class_in};
     ghost use Rattle.statekeys.specs.ClassKeys.{IsClassKey};
-    ghost use Rattle.lawful.specs.LooseNodes.{searched_runs};
     ghost use Rattle.lawful.specs.Serving.{loose_alike, loose_keyed};
 
     type Move = LooseTransition;
@@ -90,19 +111,14 @@ impl<'d> Orders for LooseRuns<'d> {
         SearchRoom::new(alloc)
     }
 
-    // Follows the ways that go on loosely from a node in time, with the combinational processes that were found once.
+    // Follows the ways that go on loosely from a node, up to the next choices.
     fn expand(
         &self,
         alloc: Global,
         room: &mut SearchRoom,
         node: LooseNode<'d>,
     ) -> Result<Expanded<LooseNode<'d>, LooseTransition, End>, AllocError> {
-        let scope = ExpandScope {
-            alloc,
-            classes: self.classes.as_slice(),
-            limits: self.limits,
-        };
-        let expanded = expand(scope, &self.analyzed_design, room, node.machine)?;
+        let expanded = self.ways(alloc, WalkStops::AtChoices, room, node)?;
         Ok(expanded)
     }
 

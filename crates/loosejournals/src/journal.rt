@@ -7,9 +7,9 @@ ghost use Rattle.runs.specs.RunRecords.{IsRun};
 ghost use Rattle.loosejournals.specs.FoundJournals.{IsJournalOf};
 
 use crate::lead_scope::LeadScope;
-use crate::led_run::lead;
+use crate::led_record::led_record;
 use loose::transition::LooseTransition;
-use model::end::{End, Why};
+use model::end::End;
 use model::entry::Entry;
 use runs::compared::is_whole;
 use runs::run::RunRecord;
@@ -21,14 +21,6 @@ pub struct LooseRun<'a> {
     pub moves: &'a [LooseTransition],
     pub text: &'a [u8],
     pub end: End,
-}
-
-// The process whose turn is too long, where a run ends by one.
-fn long_process(end: End) -> Option<u32> {
-    match end {
-        End::Stopped(Why::TooLong(process)) => Some(process),
-        _ => None,
-    }
 }
 
 // The journal of a run, where its lines and its end are these, and neither the most entries nor want of memory cut it off.
@@ -60,15 +52,8 @@ pub fn lawful_journal(
     requires until { IfSome scope.limits.until (λ until. until ≤ last_time) }
     ensures { IfOk result (λ found. IfSome found (λ journal. IsJournalOf scope.entry.design.now scope.entry.limits run.entry.text.now run.entry.end journal.items)) }
 {
-    let mut led = match lead(scope, run.moves)? {
-        Some(led) => led,
-        None => return Ok(None),
-    };
-    match led.end_by(scope.limits, long_process(run.end))? {
-        Some(end) => {
-            let told = led.told(scope.alloc, scope.limits, end);
-            Ok(journal_of(told, run.text, run.end))
-        }
+    match led_record(scope, run.moves, run.end)? {
+        Some(record) => Ok(journal_of(record, run.text, run.end)),
         None => Ok(None),
     }
 }

@@ -1,8 +1,7 @@
 -- What a machine takes for an actor is his step, and whoever waits may be taken.
-use Rattle.std.proofs.Common.{◌≡◌, ℕ, Bool, true, false, not, if◌then◌else◌, ◌==◌, inl, inr, List, [], ◌∷◌, ◌++◌, Option, Some, None, refl, sym, ap, subst, ◌∙◌}
+use Rattle.std.proofs.Common.{◌≡◌, ℕ, true, false, if◌then◌else◌, inl, inr, List, [], ◌∷◌, ◌++◌, Option, Some, refl, sym, ap, subst, ◌∙◌}
 use Rattle.model.specs.declared.entry.Entry.{Entry}
 use Rattle.model.specs.declared.entry.Entry.TheVariants.{Turn, Update}
-use Rattle.model.specs.declared.entry.Refusal.TheVariants.{Finished}
 use Rattle.model.specs.Design.{Design}
 use Rattle.model.specs.States.{Action, Evaluate, Event, State}
 use Rattle.model.specs.Runs.{action_in, has_any, turn_refusal, effect}
@@ -14,14 +13,13 @@ use Rattle.regions.specs.StepLogs.{IsTaken}
 use Rattle.loose.specs.declared.transition.LooseTransition.{LooseTransition}
 use Rattle.loose.specs.declared.transition.LooseTransition.TheVariants.{Process, FirstOf}
 use Rattle.loose.specs.Loose.{AlikeIn, loose_refusal, loose_transition_of, loose_transition_of_action}
-use Rattle.loose.proofs.ClassStates.{states_in-sym, states_in-trans}
+use Rattle.loose.proofs.ClassStates.{states_in-sym}
 use Rattle.loose.proofs.LooseSteps.{step_is_loose, loose_step_keeps_order}
 use Rattle.loosesteps.specs.LooselyTaken.{MayBeTaken, IsEntryFor}
 use Rattle.loosesteps.proofs.AlikeTaken.{IsReordered}
 use Rattle.traces.specs.Traces.{AreMoves}
-use Rattle.footprints.specs.Footprints.{Footprint}
 use Rattle.footprints.specs.FootprintLaws.{IsStepWith}
-use Rattle.footprints.specs.Moves.{OrderedState, IsWaiting, IsMove, loose_moves}
+use Rattle.footprints.specs.Moves.{IsWaiting, IsMove, loose_moves}
 use Rattle.footprints.proofs.AlikeFootprints.{footprint_tells}
 use Rattle.footprints.proofs.LooseMoves.{loose_steps_are_moves}
 use Rattle.footprints.proofs.WaitingActors.{waiting_moves}

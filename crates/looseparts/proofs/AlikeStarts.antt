@@ -1,7 +1,7 @@
 -- What stands for all that a set of actors does stands for it from a state that is alike, too.
-use Rattle.std.proofs.Common.{◌≡◌, Bool, true, List, [], ◌∷◌, ◌++◌, refl, sym, subst}
+use Rattle.std.proofs.Common.{◌≡◌, Bool, true, List, ◌++◌}
 use Rattle.std.specs.List.{Contains}
-use Rattle.traces.specs.Traces.{Moves, AreMoves, IsRunOfMoves, printed_by_steps, NoneEnds, AreAmong}
+use Rattle.traces.specs.Traces.{Moves, AreMoves, printed_by_steps}
 use Rattle.traces.specs.StandsFor.{RunsAlone, FoundOfSet, HasWayTo, StandsFor}
 use Rattle.traces.proofs.RunLaws.{alike_runs}
 

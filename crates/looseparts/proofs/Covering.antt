@@ -27,16 +27,17 @@ use Rattle.footprints.specs.Footprints.{Footprint}
 use Rattle.footprints.specs.Moves.{OrderedState, IsMove, IsWaiting, loose_moves}
 use Rattle.footprints.proofs.AlikeFootprints.{footprint_tells}
 use Rattle.footprints.proofs.Steps.{loose_parts, step_acts, Acts, Matches, acts_match}
-use Rattle.footprints.proofs.Deeds.{Deed}
+use Rattle.footprints.proofs.Deeds.{Deed, turned_is_done, updated_is_done}
 use Rattle.footprints.proofs.LooseMoves.{loose_steps_are_moves}
 use Rattle.certificates.specs.Notes.{NoteView}
 use Rattle.certificates.proofs.Tests.{is_or_not, never_true}
 use Rattle.looseruns.specs.LooseMoves.{entry_for, move, moves_from}
 use Rattle.looseruns.specs.LooseCover.{LeadToOneLooseNode}
+use Rattle.looseruns.specs.ObservedEnding.{LeadsToFinish}
 use Rattle.certifiedruns.specs.CertifiedCover.{actors_of}
-use Rattle.certifiedruns.proofs.Covering.{AreActors, ChangesFirst, divided, lead_through, none_changed, are_run, has_way, are_timely}
+use Rattle.certifiedruns.proofs.Covering.{ChangesFirst, divided, lead_through, none_changed, are_run, has_way, are_timely}
 use Rattle.looseparts.specs.StandTogether.{concern, IsTold, StandTogether}
-use Rattle.looseparts.specs.PartLaws.{LeadsToEnd, StandingCovers, NoEndsCover}
+use Rattle.looseparts.specs.PartLaws.{StandingCovers, NoEndsCover}
 
 -- where something is active, a run doesn't end but by a turn that is too long
 
@@ -168,6 +169,25 @@ module _ (class : ℕ → ℕ) (design : Design) where
       option_and_then_some (λ x. moves_from class design (joined f x) rest) (move class design f.state a) g goes
       (λ x at_x later. absurd (no_move f.state (entry_for class f.state a) x finished at_x))
 
+  -- no time passes on a run
+
+  acts_keep_time : (s : State) (entry : Entry) (x : Effect) (f : Footprint) (d : Deed) → IsInOrder s → s.finished ≡ false → Acts class design s entry d x f → x.state.time ≡ s.time
+  acts_keep_time s (Turn n) x f d order going (p, t, is, found, same_d, same_x, same_f) = ap (λ (e : Effect). e.state.time) same_x ∙ (turned_is_done s n p t order).time
+  acts_keep_time s (Update n) x f d order going (r, v, is, first, same_d, same_x, same_f) = ap (λ (e : Effect). e.state.time) same_x ∙ (updated_is_done s n r v order going).time
+  acts_keep_time s ActivateInactive x f d order going acts = absurd acts
+  acts_keep_time s ActivateNba x f d order going acts = absurd acts
+  acts_keep_time s ActivateMonitor x f d order going acts = absurd acts
+  acts_keep_time s (Advance time) x f d order going acts = absurd acts
+
+  step_keeps_time : (m n : OrderedState) (a : LooseTransition) (f : Footprint) → IsMove class design m.0 a f n.0 → n.0.time ≡ m.0.time
+  step_keeps_time m n a f (entry, x, step, owner, leads) =
+      let (going, (d, acts)) = step_acts class design m.0 entry x f step in
+      sym (ap (λ (z : State). z.time) leads) ∙ acts_keep_time m.0 entry x f d m.1 going acts
+
+  run_keeps_time : (w : List (LooseTransition × Footprint)) (m t : OrderedState) → IsRunOfMoves moves m w t → t.0.time ≡ m.0.time
+  run_keeps_time [] m t run = ap (λ (z : OrderedState). z.0.time) (sym run)
+  run_keeps_time (x ∷ w) m t (n, step, later) = run_keeps_time w n t later ∙ step_keeps_time m n x.0 x.1 step
+
   module _ (s : State) (ways ends : List (List LooseTransition)) (notes : List NoteView) (somebody : LooseTransition) (waits : IsWaiting class s somebody) (h : StandTogether class design s ways ends notes) (all : (a : LooseTransition) → IsWaiting class s a → concern notes a ≡ true) where
     abbrev start : OrderedState
     start = (s, h.order)
@@ -244,7 +264,7 @@ module _ (class : ℕ → ℕ) (design : Design) where
       abbrev Covers : Type 0
       Covers =
           ((p : List LooseTransition) × (r : List LooseTransition) × (0 < length p) × (p ++ r ≡ transitions) × Any (λ way. LeadToOneLooseNode class design limits s p way) ways)
-          ⊎ ((end ≡ Stopped Finish) × Any (λ way. LeadsToEnd class design limits s g.lines way) ends)
+          ⊎ ((end ≡ Stopped Finish) × (g.state.time ≡ s.time) × Any (λ way. LeadsToFinish class design limits s g.lines way) ends)
 
       covers_going : NoneEnds moves.Ends w → Covers
       covers_going none =
@@ -269,14 +289,15 @@ module _ (class : ℕ → ℕ) (design : Design) where
           let finished_f : f.state.finished ≡ true = sym (ap (λ (z : State). z.finished) is) ∙ finished in
           let all_g : f ≡ g = stays_finished rest f g finished_f later in
           let finished_g : g.state.finished ≡ true = ap (λ (z : Effect). z.state.finished) (sym all_g) ∙ finished_f in
-          let one : LeadsToEnd class design limits s g.lines (actors_of y) = (
+          let one : LeadsToFinish class design limits s g.lines (actors_of y) = (
             way,
             leads,
             are_timely class design limits y start v run_y,
             sym near_way.finished ∙ finished_y,
             printed_way ∙ prints ∙ sym lines ∙ ap (λ (z : Effect). z.lines) all_g,
           ) in
-          inr (finished_end limits g.state end finished_g here.1 here.2, any_there (λ others. LeadsToEnd class design limits s g.lines others) ends (actors_of y) there one)
+          let time : g.state.time ≡ s.time = ap (λ (z : Effect). z.state.time) (sym all_g) ∙ (sym (ap (λ (z : State). z.time) is) ∙ run_keeps_time w start u run_w) in
+          inr (finished_end limits g.state end finished_g here.1 here.2, time, any_there (λ others. LeadsToFinish class design limits s g.lines others) ends (actors_of y) there one)
 
       covers_by : Covers
       covers_by =
@@ -302,5 +323,5 @@ pub no_ends_cover : NoEndsCover
 no_ends_cover class design limits s ways covers transition more g end goes timely here =
     elim (covers transition more g end goes timely here) [
       | inl cover ↦ cover
-      | inr (is, (k, way, less, at, leads)) ↦ absurd (contains_nothing way (k, less, at))
+      | inr (is, time, (k, way, less, at, leads)) ↦ absurd (contains_nothing way (k, less, at))
     ]

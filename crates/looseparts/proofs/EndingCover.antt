@@ -1,11 +1,7 @@
 -- What ways by parts cover is covered in a search.
 use Rattle.std.proofs.Common.{◌≡◌, ℕ, List, [], ◌∷◌, ◌++◌, Some, inl, inr, refl, sym, ap, ◌∙◌, subst}
-use Rattle.std.specs.List.{Any, Contains}
 use Rattle.std.proofs.lemmas.List.{append-nil}
 use Rattle.model.specs.declared.end.Limits.{Limits}
-use Rattle.model.specs.declared.end.Why.TheVariants.{Finish}
-use Rattle.model.specs.declared.end.End.{End}
-use Rattle.model.specs.declared.end.End.TheVariants.{Stopped}
 use Rattle.model.specs.Design.{Design}
 use Rattle.model.specs.States.{State}
 use Rattle.model.specs.Runs.{Effect, silent, joined}
@@ -16,7 +12,6 @@ use Rattle.loose.specs.Loose.{AlikeIn}
 use Rattle.loose.specs.LooseLaws.{IsOneLooseNode}
 use Rattle.loose.proofs.ClassStates.{states_in-same}
 use Rattle.explore.specs.declared.Successor.{Successor}
-use Rattle.explore.specs.declared.EndedPath.{EndedPath}
 use Rattle.looseruns.specs.LooseMoves.{moves_from, AreTimelyMoves}
 use Rattle.looseruns.specs.LooseRuns.{ComesOfMoves, MayEndLoosely, text_of_moves, ComeToOneLooseNode}
 use Rattle.looseruns.specs.LooseCover.{LeadToOneLooseNode}
@@ -97,7 +92,7 @@ covering_to_ends_is_covered {Node} Holds class design limits successors ended no
             leads = any_of_map (λ (next : Successor Node LooseTransition). next.moves.items) (λ way. ComeToOneLooseNode class design limits (run ++ part) (run ++ way)) successors
                 (n, way, within, is, come_together class design limits run part way e s at.comes at.in_order at.one_node.1 first together);
           })
-      | inr (finished, (n, way, within, is, (f, leads, timely', over, same))) ↦
+      | inr (finished, time, (n, way, within, is, (f, leads, timely', over, same))) ↦
           let (m, path, less, there, (printed, ended_so)) = tells way f (n, within, is) leads in
           inl (
             m,

@@ -1,5 +1,5 @@
 -- What stands for all that some actors do, put together from first steps and from parts.
-use Rattle.std.proofs.Common.{◌≡◌, ◌≢◌, ◌⊎◌, ℕ, zero, suc, ◌<◌, Bool, true, false, List, [], ◌∷◌, ◌++◌, Some, map, inl, inr, refl, sym, ap, subst, ◌∙◌, arith, append-nil}
+use Rattle.std.proofs.Common.{◌≡◌, ◌⊎◌, ℕ, true, false, List, [], ◌∷◌, ◌++◌, Some, map, inl, inr, refl, sym, ap, subst, ◌∙◌, append-nil}
 use Rattle.std.specs.List.{All, Contains}
 use Rattle.std.proofs.lemmas.List.{map-append}
 use Rattle.std.proofs.lemmas.List.Elements.{All-head, All-tail, All-contains, Contains-append_left, Contains-append_right, Contains-append_cases}
@@ -16,11 +16,11 @@ use Rattle.traces.proofs.RunLaws.{alike_runs}
 use Rattle.traces.proofs.Branches.{steps_stand_for}
 use Rattle.traces.proofs.LargerSets.{larger_sets}
 use Rattle.footprints.specs.Footprints.{Footprint, AreApart}
-use Rattle.footprints.specs.Moves.{OrderedState, IsWaiting, IsMove, GivesTo, loose_moves}
+use Rattle.footprints.specs.Moves.{OrderedState, IsWaiting, IsMove, loose_moves}
 use Rattle.footprints.proofs.StepsApart.{apart_is_symmetric}
 use Rattle.footprints.proofs.LooseMoves.{loose_steps_are_moves}
-use Rattle.certificates.specs.Notes.{NoteView, TellsOf, StandApart}
-use Rattle.certificates.specs.Coming.{begins, wakes_actor, is_same}
+use Rattle.certificates.specs.Notes.{NoteView, TellsOf}
+use Rattle.certificates.specs.Coming.{wakes_actor, is_same}
 use Rattle.certificates.specs.Apart.{SayApart}
 use Rattle.certificates.proofs.Telling.{said_stands}
 use Rattle.certificates.proofs.Tests.{never_true, or_left, or_right, same_number}

@@ -28,14 +28,14 @@ use Rattle.certifiedruns.specs.CertifiedCover.{actors_of}
 use Rattle.looseparts.specs.StandTogether.{concern, EndsBy, StandTogether}
 use Rattle.looseparts.specs.ActorSteps.{IsActorStep}
 use Rattle.looseparts.specs.FoundWays.{ways_in}
-use Rattle.looseparts.specs.GoneWays.{IsGone, ComesTo, CameTo, HasRepeat, ways_of, AreKept, HasSame, IsKeptOnce, StandAsWell}
+use Rattle.looseparts.specs.GoneWays.{IsWayGone, ComesTo, CameTo, HasRepeat, ways_of, AreWaysKept, HasSame, IsKeptOnce, StandAsWell}
 use Rattle.looseparts.specs.declared.repeats.GoneWay.{GoneWay}
 use Rattle.looseparts.proofs.Lists.{contains_here, contains_later, contains_none, contains_split, contains_mapped, all_contained}
 use Rattle.looseparts.proofs.Covering.{none_both, stepping}
 
 -- a way is gone step by step
 
-pub gone_nowhere : (class : ℕ → ℕ) (m : MachineView) → IsInOrder (state_at m) → IsGone class m [] m
+pub gone_nowhere : (class : ℕ → ℕ) (m : MachineView) → IsInOrder (state_at m) → IsWayGone class m [] m
 gone_nowhere class m order =
     record {
       order = order;
@@ -49,7 +49,7 @@ gone_nowhere class m order =
       lines_are = sym (append-nil m.lines);
     }
 
-pub gone_more : (class : ℕ → ℕ) (old m new : MachineView) (way : List LooseTransition) (actor : LooseTransition) (note : NoteView) → m.code ≡ old.code → IsGone class old way m → IsActorStep class m actor note new → IsGone class old (way ++ actor ∷ []) new
+pub gone_more : (class : ℕ → ℕ) (old m new : MachineView) (way : List LooseTransition) (actor : LooseTransition) (note : NoteView) → m.code ≡ old.code → IsWayGone class old way m → IsActorStep class m actor note new → IsWayGone class old (way ++ actor ∷ []) new
 gone_more class old m new way actor note code g step =
     let design = design_of old.code in
     let moves : Moves OrderedState LooseTransition Footprint = loose_moves class design in
@@ -114,14 +114,14 @@ among_by P (x ∷ w) all = (All-head P x.0 (actors_of w) all, among_by P w (All-
 -- one way more is gone
 
 module _ (class : ℕ → ℕ) (m : MachineView) (over : Bool) where
-  pub none_kept : AreKept class m over [] []
+  pub none_kept : AreWaysKept class m over [] []
   none_kept = record { came = All-nil (CameTo class m over); repeats = All-nil (HasRepeat class m over []) }
 
   repeat_stays : (old new : List GoneWay) → ((one : GoneWay) → Contains old one → Contains new one) → (way : List LooseTransition) → HasRepeat class m over old way → HasRepeat class m over new way
   repeat_stays old new stays way (one, there, comes) = (one, stays one there, comes)
 
   pub kept_more : (ways : List (Vec LooseTransition)) (at : ℕ) (d way : Vec LooseTransition) (old new : List GoneWay) (gone : GoneWay) → at < length ways → get_or ways at d ≡ way → gone.way.items ≡ way.items → ComesTo class m way.items over gone.lines.items gone.key.items
-      → IsKeptOnce old gone new → AreKept class m over (ways_in (take at ways)) old → AreKept class m over (ways_in (take (at + 1) ways)) new
+      → IsKeptOnce old gone new → AreWaysKept class m over (ways_in (take at ways)) old → AreWaysKept class m over (ways_in (take (at + 1) ways)) new
   kept_more ways at d way old new gone below is same comes once before =
       let split : ways_in (take (at + 1) ways) ≡ ways_in (take at ways) ++ way.items ∷ [] =
       ap ways_in (take_more ways at d below) ∙ map-append (λ (w : Vec LooseTransition). w.items) (take at ways) (get_or ways at d ∷ []) ∙ ap (λ (z : Vec LooseTransition). ways_in (take at ways) ++ z.items ∷ []) is in
@@ -216,7 +216,7 @@ module _ (class : ℕ → ℕ) (p : MachineView) (notes : List NoteView) where
             ]),
       )
 
-  module _ (ways ends : List (List LooseTransition)) (kept : List GoneWay) (are : AreKept class m false ways kept) (concerned : All (λ gone. All (λ a. concern notes a ≡ true) gone.way.items) kept)
+  module _ (ways ends : List (List LooseTransition)) (kept : List GoneWay) (are : AreWaysKept class m false ways kept) (concerned : All (λ gone. All (λ a. concern notes a ≡ true) gone.way.items) kept)
       (h : StandTogether class design (state_at p) ways ends notes) (g : Gathered false kept) where
     whole_by : (w : List (LooseTransition × Footprint)) (t : OrderedState) → RunsAlone moves (concern notes) (state_at p, h.order) w t → ((a : LooseTransition) → concern notes a ≡ true → moves.Waits t a → ⊥)
         → HasWayTo moves (concern notes) (state_at p, h.order) g.0 t (printed_by_steps moves.prints w)
@@ -251,7 +251,7 @@ module _ (class : ℕ → ℕ) (p : MachineView) (notes : List NoteView) where
           ends_are = h.ends_are;
         }
 
-  module _ (ways ends : List (List LooseTransition)) (kept : List GoneWay) (are : AreKept class m true ends kept) (h : StandTogether class design (state_at p) ways ends notes) where
+  module _ (ways ends : List (List LooseTransition)) (kept : List GoneWay) (are : AreWaysKept class m true ends kept) (h : StandTogether class design (state_at p) ways ends notes) where
     ends_by : (text : List ℕ) → EndsBy class design (state_at p, h.order) ends text → EndsBy class design (state_at p, h.order) (ways_of kept) text
     ends_by text (w, t, run, finished, prints, there) =
         let (one, among, e) = All-contains (HasRepeat class m true kept) ends (actors_of w) are.repeats there in
@@ -283,12 +283,12 @@ module _ (class : ℕ → ℕ) (p : MachineView) (notes : List NoteView) where
   pub as_well_same : (over : Bool) (ways : List (List LooseTransition)) → StandAsWell class p notes over ways ways
   as_well_same over ways = record { on = λ is ends h. h; to_ends = λ is others h. h }
 
-  pub as_well : (over : Bool) (old new : List (List LooseTransition)) (kept : List GoneWay) → new ≡ ways_of kept → AreKept class m over old kept → All (λ gone. All (λ a. concern notes a ≡ true) gone.way.items) kept → StandAsWell class p notes over old new
+  pub as_well : (over : Bool) (old new : List (List LooseTransition)) (kept : List GoneWay) → new ≡ ways_of kept → AreWaysKept class m over old kept → All (λ gone. All (λ a. concern notes a ≡ true) gone.way.items) kept → StandAsWell class p notes over old new
   as_well over old new kept is are concerned =
       record {
         on = λ here ends h.
-            let are' : AreKept class m false old kept = subst (λ z. AreKept class m z old kept) here are in
+            let are' : AreWaysKept class m false old kept = subst (λ z. AreWaysKept class m z old kept) here are in
             subst (λ z. StandTogether class design (state_at p) z ends notes) (sym is) (kept_stand old ends kept are' concerned h (gathered false kept are'.came));
         to_ends = λ here ways h.
-            subst (λ z. StandTogether class design (state_at p) ways z notes) (sym is) (kept_end ways old kept (subst (λ z. AreKept class m z old kept) here are) h);
+            subst (λ z. StandTogether class design (state_at p) ways z notes) (sym is) (kept_end ways old kept (subst (λ z. AreWaysKept class m z old kept) here are) h);
       }

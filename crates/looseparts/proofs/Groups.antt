@@ -19,7 +19,7 @@ use Rattle.certificates.specs.Coming.{wakes_actor}
 use Rattle.looseparts.specs.declared.found.PartFindings.{PartFindings}
 use Rattle.looseparts.specs.declared.found.FoundPart.{FoundPart}
 use Rattle.looseparts.specs.StandTogether.{concern, StandTogether, GoesOnTogether, IsFollowedFirst}
-use Rattle.looseparts.specs.PartLaws.{CoverToEnds}
+use Rattle.looseruns.specs.ObservedEnding.{CoverToFinish}
 use Rattle.looseparts.specs.FoundWays.{ways_in}
 use Rattle.looseparts.specs.FoundParts.{AreAdded, IsPutBehind, IsPutTogether}
 use Rattle.looseparts.specs.FoundGroups.{FoundStandsForAll, IsFoundFor, IsFollowedBy, IsPart, PartsStandTogether}
@@ -215,7 +215,7 @@ together_more parts part old new before put class code s order each =
 -- all who wait
 
 pub covers : (class : ℕ → ℕ) (code : Compiled) (limits : Limits) (s : State) (group : List LooseTransition) (found : PartFindings) (somebody : LooseTransition) → IsWaiting class s somebody → IsFoundFor class code s group found
-    → ((a : LooseTransition) → IsWaiting class s a → Contains group a) → CoverToEnds class (design_of code) limits s (ways_in found.ways.items) (ways_in found.ends.items)
+    → ((a : LooseTransition) → IsWaiting class s a → Contains group a) → CoverToFinish class (design_of code) limits s (ways_in found.ways.items) (ways_in found.ends.items)
 covers class code limits s group found somebody waits is among =
     standing_covers class (design_of code) limits s (ways_in found.ways.items) (ways_in found.ends.items) found.notes.items somebody waits is.stand
     (λ a waits'. All-contains (λ a. concern found.notes.items a ≡ true) group a is.all (among a waits'))

@@ -1,6 +1,6 @@
 -- Whom notes concern, and notes that say that they are apart.
-use Rattle.std.proofs.Common.{◌≡◌, ◌⊎◌, ℕ, Bool, true, false, ◌&&◌, ◌||◌, ◌==◌, not, List, [], ◌∷◌, ◌++◌, inl, inr, refl, sym, ap, subst, ◌∙◌, eqb-true}
-use Rattle.std.specs.List.{list_any, Contains}
+use Rattle.std.proofs.Common.{◌≡◌, ◌⊎◌, ℕ, true, false, ◌==◌, not, List, [], ◌∷◌, ◌++◌, inl, inr, refl, sym, ap, subst, ◌∙◌, eqb-true}
+use Rattle.std.specs.List.{Contains}
 use Rattle.std.proofs.lemmas.List.Elements.{Contains-append_left, Contains-append_right, Contains-append_cases}
 use Rattle.model.specs.Turns.{contains}
 use Rattle.loose.specs.declared.transition.LooseTransition.{LooseTransition}
@@ -11,8 +11,8 @@ use Rattle.certificates.specs.Masks.{meet}
 use Rattle.certificates.specs.Notes.{NoteView, TellsOf}
 use Rattle.certificates.specs.Coming.{is_same, begins, wakes_actor}
 use Rattle.certificates.specs.Apart.{differ, SayApart}
-use Rattle.certificates.proofs.Tests.{or_left, or_right, or_cases, never_true, same_number, any_at, any_in, any_told}
-use Rattle.looseparts.specs.StandTogether.{concern, IsTold}
+use Rattle.certificates.proofs.Tests.{or_left, or_cases, never_true, same_number, any_at, any_in, any_told}
+use Rattle.looseparts.specs.StandTogether.{concern}
 
 -- an actor is the same as himself
 

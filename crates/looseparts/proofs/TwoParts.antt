@@ -1,7 +1,7 @@
 -- What stands for all that two sets of actors do that are apart, one way of each after the other.
-use Rattle.std.proofs.Common.{◌≡◌, ◌≢◌, ◌⊎◌, ℕ, zero, suc, Bool, true, false, ◌&&◌, ◌==◌, List, [], ◌∷◌, ◌++◌, inl, inr, refl, sym, ap, subst, ◌∙◌, arith}
+use Rattle.std.proofs.Common.{◌≡◌, ◌≢◌, ◌⊎◌, ℕ, zero, suc, Bool, true, false, List, [], ◌∷◌, ◌++◌, inl, inr, refl, sym, ap, subst, ◌∙◌, arith}
 use Rattle.std.specs.List.{Contains}
-use Rattle.traces.specs.Traces.{Moves, AreMoves, IsOneOf, all_ways}
+use Rattle.traces.specs.Traces.{Moves, AreMoves, IsOneOf}
 use Rattle.traces.specs.StandsFor.{FoundOfSet, StandsFor, of_both, AreCombined}
 use Rattle.traces.proofs.LargerSets.{larger_sets}
 use Rattle.traces.proofs.Combined.{parts_stand_for}

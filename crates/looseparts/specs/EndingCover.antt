@@ -15,7 +15,7 @@ use Rattle.explore.specs.Search.{IsCovered}
 use Rattle.looseruns.specs.LooseMoves.{moves_from}
 use Rattle.looseruns.specs.LooseRuns.{StandsLoosely, loose_runs_of}
 use Rattle.looseruns.specs.LooseCover.{loose_ways_to, TellsLooseEnds}
-use Rattle.looseparts.specs.PartLaws.{CoverToEnds}
+use Rattle.looseruns.specs.ObservedEnding.{CoverToFinish}
 
 -- what each of these ways prints from a state, up to where the run has finished, is told of an end of a search
 abbrev pub TellsWaysToEnds : (ℕ → ℕ) → Design → State → List (List LooseTransition) → List (EndedPath LooseTransition End) → Type 0
@@ -30,6 +30,6 @@ CoveringToEndsIsCovered {Node} Holds =
     (class : ℕ → ℕ) (design : Design) (limits : Limits) (successors : List (Successor Node LooseTransition))
     (ended : List (EndedPath LooseTransition End)) (node : Node) (run : List LooseTransition) (ends : List (List LooseTransition))
     (at : StandsLoosely Holds class design limits node run)
-    → CoverToEnds class design limits at.held.state (loose_ways_to successors) ends
+    → CoverToFinish class design limits at.held.state (loose_ways_to successors) ends
     → TellsWaysToEnds class design at.held.state ends ended → TellsLooseEnds design limits ended at.held
     → IsCovered (loose_runs_of Holds class design limits) successors ended run

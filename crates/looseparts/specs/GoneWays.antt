@@ -18,7 +18,7 @@ use Rattle.looseparts.specs.declared.repeats.GoneWay.{GoneWay}
 
 -- A machine went a way: that is a run none of whose steps ends it, unless it has finished then; it leads to what is like where the machine
 -- stands; and what it prints stands behind the lines.
-pub record IsGone (class : ℕ → ℕ) (old : MachineView) (way : List LooseTransition) (new : MachineView) : Type 0 where
+pub record IsWayGone (class : ℕ → ℕ) (old : MachineView) (way : List LooseTransition) (new : MachineView) : Type 0 where
   pub order : IsInOrder (state_at old)
   pub steps : List (LooseTransition × Footprint)
   pub there : OrderedState
@@ -33,7 +33,7 @@ pub record IsGone (class : ℕ → ℕ) (old : MachineView) (way : List LooseTra
 -- to a state with this class key.
 pub record ComesTo (class : ℕ → ℕ) (m : MachineView) (way : List LooseTransition) (over : Bool) (lines key : List ℕ) : Type 0 where
   pub end : MachineView
-  pub gone : IsGone class m way end
+  pub gone : IsWayGone class m way end
   pub finished : end.core.finished ≡ over
   pub same_code : end.code ≡ m.code
   pub told : end.lines ≡ lines
@@ -53,7 +53,7 @@ abbrev pub ways_of : List GoneWay → List (List LooseTransition)
 ways_of kept = map (λ gone. gone.way.items) kept
 
 -- These ways were gone, and each of some ways comes to the same as one of them.
-pub record AreKept (class : ℕ → ℕ) (m : MachineView) (over : Bool) (ways : List (List LooseTransition)) (kept : List GoneWay) : Type 0 where
+pub record AreWaysKept (class : ℕ → ℕ) (m : MachineView) (over : Bool) (ways : List (List LooseTransition)) (kept : List GoneWay) : Type 0 where
   pub came : All (CameTo class m over) kept
   pub repeats : All (HasRepeat class m over kept) ways
 

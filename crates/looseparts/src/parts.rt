@@ -6,7 +6,7 @@ ghost use Rattle.orders.specs.Alike.{IsInOrder};
 ghost use Rattle.loose.specs.Classes.{class_in};
 ghost use Rattle.design.specs.Compiled.{design_of};
 ghost use Rattle.regions.specs.Machine.{state_at};
-ghost use Rattle.looseparts.specs.PartLaws.{CoverToEnds};
+ghost use Rattle.looseruns.specs.ObservedEnding.{CoverToFinish};
 ghost use Rattle.looseparts.specs.FoundWays.{ways_in};
 
 use crate::find::explore;
@@ -46,7 +46,7 @@ pub fn ways_by_parts(
     machine: &Machine<'_>,
 ) -> Result<Option<CoveringWays>, AllocError>
     requires { IsInOrder (state_at machine.now) }
-    ensures cover { IfOk result (λ found. IfSome found (λ found. (limits : Limits) → CoverToEnds (class_in classes.now) (design_of machine.now.code) limits (state_at machine.now) (ways_in found.ways.items) (ways_in found.ends.items))) }
+    ensures cover { IfOk result (λ found. IfSome found (λ found. (limits : Limits) → CoverToFinish (class_in classes.now) (design_of machine.now.code) limits (state_at machine.now) (ways_in found.ways.items) (ways_in found.ends.items))) }
     ensures short { IfOk result (λ found. IfSome found (λ found. (process : ℕ) → HasLongTurn (design_of machine.now.code) (state_at machine.now) process → ⊥)) }
 {
     if machine.is_finished() {

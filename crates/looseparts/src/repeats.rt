@@ -9,7 +9,7 @@ ghost use Rattle.statekeys.specs.ClassKeys.{IsClassKey};
 ghost use Rattle.looseparts.specs.FoundWays.{ways_in};
 ghost use Rattle.looseparts.specs.StandTogether.{concern};
 ghost use Rattle.looseparts.specs.FoundGroups.{FoundStandsForAll};
-ghost use Rattle.looseparts.specs.GoneWays.{AreKept, ComesTo, HasSame, IsGone, IsKeptOnce, StandAsWell, ways_of};
+ghost use Rattle.looseparts.specs.GoneWays.{AreWaysKept, ComesTo, HasSame, IsWayGone, IsKeptOnce, StandAsWell, ways_of};
 
 use crate::acting::{copy_of, do_concern_all, take_step};
 use crate::found::PartFindings;
@@ -37,7 +37,7 @@ fn go(
     way: &[LooseTransition],
 ) -> Result<bool, AllocError>
     requires { IsInOrder (state_at machine.old) }
-    ensures gone { IfOk result (λ done. done ≡ true → IsGone (class_in classes.now) machine.old way.now machine.new) }
+    ensures gone { IfOk result (λ done. done ≡ true → IsWayGone (class_in classes.now) machine.old way.now machine.new) }
     ensures code { machine.new.code ≡ machine.old.code }
 {
     for actor in way {
@@ -167,7 +167,7 @@ fn kept_of(
     over: bool,
 ) -> Result<Option<Vec<GoneWay>>, AllocError>
     requires { IsInOrder (state_at machine.now) }
-    ensures { IfOk result (λ kept. IfSome kept (λ kept. AreKept (class_in classes.now) (record machine.now { lines = [] }) over (ways_in ways.now) kept.items)) }
+    ensures { IfOk result (λ kept. IfSome kept (λ kept. AreWaysKept (class_in classes.now) (record machine.now { lines = [] }) over (ways_in ways.now) kept.items)) }
 {
     let mut kept = Vec::new(room.alloc);
     for way in ways {

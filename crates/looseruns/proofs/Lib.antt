@@ -6,3 +6,17 @@ pub mod LooseSearches
 pub mod LooseGoing
 pub mod LooseCovering
 pub mod LooseRaceRows
+pub mod FutureTimes
+pub mod Observing
+pub mod ObservedParts
+pub mod ObservedSearches
+pub mod ObservedGoing
+pub mod PassingTime
+pub mod ObservedCovering
+pub mod ObservedSole
+pub mod ObservedEnding
+pub mod RegistersSeen
+pub mod ObservedRows
+pub mod SightLines
+pub mod Sights
+pub mod AsciiLines

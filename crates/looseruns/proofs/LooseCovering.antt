@@ -45,7 +45,7 @@ entries_follow class design limits s t ways i j alike follow transition f moved 
     one_transition (λ x. Contains ways (x ∷ [])) (loose_transition_of class t entry) found transition its' its there
 
 -- an effect as it is, but in another state
-abbrev in_state : Effect → State → Effect
+abbrev pub in_state : Effect → State → Effect
 in_state e s = record e { state = s }
 
 -- what leads to one loose node from a state comes to one loose node behind a run that leads to one that is alike

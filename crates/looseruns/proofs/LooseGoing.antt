@@ -22,13 +22,13 @@ use Rattle.looseruns.proofs.RunsOfMoves.{moves_from-append, comes_of_more, loose
 
 -- what comes of transitions doesn't depend on what was printed and changed before
 
-joined-alone : (e : Effect) → joined e (silent e.state) ≡ e
+pub joined-alone : (e : Effect) → joined e (silent e.state) ≡ e
 joined-alone e = rw (append-nil e.lines, append-nil e.changes) refl
 
-joined-joined : (d e f : Effect) → joined (joined d e) f ≡ joined d (joined e f)
+pub joined-joined : (d e f : Effect) → joined (joined d e) f ≡ joined d (joined e f)
 joined-joined d e f = rw (append_assoc d.lines e.lines f.lines, append_assoc d.changes e.changes f.changes) refl
 
-moves_behind : (class : ℕ → ℕ) (design : Design) (d e g : Effect) (moves : List LooseTransition) → moves_from class design e moves ≡ Some g → moves_from class design (joined d e) moves ≡ Some (joined d g)
+pub moves_behind : (class : ℕ → ℕ) (design : Design) (d e g : Effect) (moves : List LooseTransition) → moves_from class design e moves ≡ Some g → moves_from class design (joined d e) moves ≡ Some (joined d g)
 moves_behind class design d e g [] is =
     let same : e ≡ g = cc in
     ap (λ x. Some (joined d x)) same

@@ -4,3 +4,13 @@ pub mod LooseRuns
 pub mod LooseRunLaws
 pub mod LooseCover
 pub mod LooseGoing
+pub mod ObservedJournals
+pub mod ObservedMoves
+pub mod ObservedRuns
+pub mod ObservedLaws
+pub mod ObservedGoing
+pub mod ObservedCover
+pub mod ObservedSole
+pub mod ObservedEnding
+pub mod RegisterObserver
+pub mod RegisterSights

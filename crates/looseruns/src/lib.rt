@@ -6,7 +6,13 @@
 //!    journal in time are shown.
 //! 3. Ways from such a run cover what comes after it (`LooseCover`), and so do the single moves where each is followed.
 //!
-//! The definitions stand in `specs/`; `laws` carries what is proved.
+//! 4. An *observer* sees bytes of each state from which time passes, and of the last one (`ObservedJournals`, `ObservedMoves`). The runs of moves
+//!    with what is seen are runs of a search, too (`ObservedRuns`), and ways cover them (`ObservedCover`, `ObservedSole`, `ObservedEnding`). One
+//!    observer sees the time and some registers (`RegisterObserver`), and its texts tell their values (`RegisterSights`).
+//!
+//! The definitions stand in `specs/`; `laws` and `observed_laws` carry what is proved, and `observed_end` has how an observed run ends.
 #![tactic(auto)]
 
 pub mod laws;
+pub mod observed_end;
+pub mod observed_laws;

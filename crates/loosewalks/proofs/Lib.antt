@@ -10,6 +10,7 @@ pub mod Walks
 pub mod Ordered
 pub mod TakenAgain
 pub mod GoingOn
+pub mod PassingFirst
 pub mod Certifying
 pub mod Holding
 pub mod Cones

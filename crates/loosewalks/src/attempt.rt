@@ -3,6 +3,8 @@ ghost use Rattle.std.specs.Prelude.{◌≡◌, ◌≢◌, ◌≤◌, [], true, I
 ghost use Rattle.loose.specs.Classes.{class_in};
 ghost use Rattle.loosewalks.specs.Attempts.{IsFit};
 ghost use Rattle.loosewalks.specs.LooseWalking.{IsSoleLooseWay};
+ghost use Rattle.loosewalks.specs.EventWays.{AreOfActors};
+ghost use Rattle.loosewalks.specs.TimeStops.{StillPassesTimeFirst};
 ghost use Rattle.combinational.specs.Found.{IsNetworkOf};
 ghost use Rattle.loosewalks.specs.Checkpoints.{AreOfCode, WalkGoesOn};
 ghost use Rattle.regions.specs.Machine.{state_at};
@@ -69,12 +71,13 @@ fn take_way(
     requires network { IsNetworkOf machine.old.code scope.network.now }
     requires active { (state_at machine.old).active ≢ [] }
     requires fit { IsFit way machine.old scope.network.now members.now }
-    ensures sole { IfOk result (λ all. all ≡ true → IsSoleLooseWay (class_in scope.entry.classes.now) scope.entry.limits machine.old room.new.way.items machine.new) }
+    ensures sole { IfOk result (λ all. all ≡ true → IsSoleLooseWay (class_in scope.entry.rules.classes.now) scope.entry.rules.limits machine.old room.new.way.items machine.new) }
+    ensures actors { IfOk result (λ all. all ≡ true → AreOfActors room.new.way.items) }
     ensures code { machine.new.code ≡ machine.old.code }
 {
     match way {
         WayThrough::Phase => take_phase(scope, members, &mut room.way, machine),
-        WayThrough::Certified => take_certified(machine, scope.classes, room),
+        WayThrough::Certified => take_certified(machine, scope.rules.classes, room),
         WayThrough::HeldSettled => take_held(scope, members, room, machine),
         WayThrough::Held => take_held_until_settled(scope, members, room, machine),
         WayThrough::HeldRest => take_held_until_settled(scope, members, room, machine),
@@ -101,7 +104,8 @@ pub(crate) fn go_by<'d>(
 ) -> Result<bool, AllocError>
     requires network { IsNetworkOf machine.old.code scope.network.now }
     requires code { AreOfCode machine.old.code machine.old walk.old }
-    ensures on { OnOk result (WalkGoesOn (class_in scope.entry.classes.now) scope.entry.limits machine.old walk.old machine.new walk.new) }
+    ensures on { OnOk result (WalkGoesOn (class_in scope.entry.rules.classes.now) scope.entry.rules.limits machine.old walk.old machine.new walk.new) }
+    ensures time { OnOk result (StillPassesTimeFirst walk.old walk.new) }
     ensures code { AreOfCode machine.old.code machine.new walk.new }
 {
     if !machine.state().is_active() {
@@ -113,11 +117,11 @@ pub(crate) fn go_by<'d>(
     };
     let checkpoint = walk.take_checkpoint(scope.alloc, machine)?;
     let all = take_way(scope, way, &members, room, machine)?;
-    if is_kept(scope.limits, machine, all) {
+    if is_kept(scope.rules.limits, machine, all) {
         walk.since.extend_from_slice(&room.way)?;
         walk.checkpoint = Some(checkpoint);
         return Ok(true);
     }
-    roll_back(scope.classes, checkpoint, &walk.since, machine)?;
+    roll_back(scope.rules.classes, checkpoint, &walk.since, machine)?;
     Ok(false)
 }

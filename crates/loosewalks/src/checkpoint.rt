@@ -1,5 +1,5 @@
 //! A walk so far, and its checkpoint: to where its machine goes back where a way that it tried doesn't stand for all.
-ghost use Rattle.std.specs.Prelude.{◌≡◌, [], Some, None, IfSome, IfOk, OnOk};
+ghost use Rattle.std.specs.Prelude.{◌≡◌, ◌≢◌, [], true, Some, None, IfSome, IfOk, OnOk};
 ghost use Rattle.orders.specs.Alike.{IsInOrder};
 ghost use Rattle.loose.specs.Classes.{class_in};
 ghost use Rattle.regions.specs.Machine.{state_at};
@@ -49,6 +49,16 @@ impl<'d> Walk<'d> {
             since: Vec::new(alloc),
             checkpoint: None,
         }
+    }
+
+    /// Whether a walk has made a move.
+    pub(crate) fn has_moved(&self) -> bool
+        ensures { moves_of self.now ≢ [] → result ≡ true }
+    {
+        if !self.moves.is_empty() {
+            return true;
+        }
+        !self.since.is_empty()
     }
 
     // Takes the checkpoint out of a walk. It is let go where the walk made more moves since than a copy is long: another copy takes no longer

@@ -83,13 +83,13 @@ pub(crate) fn take_held(
     room: &mut LooseRoom,
     machine: &mut Machine<'_>,
 ) -> Result<bool, AllocError>
-    ensures done { IfOk result (λ all. all ≡ true → (limits : Limits) → MayBeHeld machine.old.code (state_at machine.old) scope.entry.network.now held.now → HasHeld (class_in scope.entry.classes.now) limits machine.old scope.entry.network.now held.now room.new.way.items machine.new) }
+    ensures done { IfOk result (λ all. all ≡ true → (limits : Limits) → MayBeHeld machine.old.code (state_at machine.old) scope.entry.network.now held.now → HasHeld (class_in scope.entry.rules.classes.now) limits machine.old scope.entry.network.now held.now room.new.way.items machine.new) }
     ensures code { machine.new.code ≡ machine.old.code }
 {
     let (_, evaluations) = machine.state().active();
     let pending = evaluated_processes(scope.alloc, evaluations)?;
     room.tried = held.len();
-    if !take_others(machine, scope.classes, held, room)? {
+    if !take_others(machine, scope.rules.classes, held, room)? {
         return Ok(false);
     }
     let notes = room.certificate.notes();
@@ -97,7 +97,7 @@ pub(crate) fn take_held(
         room.rest = unmet_by(scope.alloc, scope.network, held, &pending, notes)?;
         return Ok(false);
     }
-    let all = take_on(machine, scope.classes, &mut room.way)?;
+    let all = take_on(machine, scope.rules.classes, &mut room.way)?;
     Ok(all)
 }
 
@@ -110,7 +110,7 @@ pub(crate) fn take_held_until_settled(
     machine: &mut Machine<'_>,
 ) -> Result<bool, AllocError>
     requires { IsNetworkOf machine.old.code scope.network.now }
-    ensures done { IfOk result (λ all. all ≡ true → (limits : Limits) → MayBeHeld machine.old.code (state_at machine.old) scope.entry.network.now held.now → HasHeldUntilSettled (class_in scope.entry.classes.now) limits machine.old scope.entry.network.now held.now room.new.way.items machine.new) }
+    ensures done { IfOk result (λ all. all ≡ true → (limits : Limits) → MayBeHeld machine.old.code (state_at machine.old) scope.entry.network.now held.now → HasHeldUntilSettled (class_in scope.entry.rules.classes.now) limits machine.old scope.entry.network.now held.now room.new.way.items machine.new) }
     ensures code { machine.new.code ≡ machine.old.code }
 {
     let begin = Begin::of(scope.alloc, machine)?;

@@ -10,10 +10,12 @@
 //! 6. `held` does so while combinational processes are held, where the steps of the others keep off these (`cone`), and takes the events
 //!    of these last. Those are held alone at first that are pending or have settled; or else those too that wait though their turns would
 //!    change something, which then have to settle until the end; or else the rest without those that were in the way.
-//! 7. `walk` goes on so, up to the next choice or for some hundred steps, in the `room` that it keeps.
+//! 7. `walk` goes on so by its `rules`, up to the next choice, to where time would pass, or for some hundred steps, in the `room` that it
+//!    keeps.
 //!
-//! The definitions stand in `specs/`: when one way stands for all (`Sole`), which ways through events do (`EventWays`), and what a walk
-//! has come to (`LooseWalking`, `Checkpoints`, `Attempts`, `Certified`, `Held`). `laws` carries what is proved of them besides.
+//! The definitions stand in `specs/`: when one way stands for all (`Sole`), which ways through events do (`EventWays`), what a walk has
+//! come to (`LooseWalking`, `Checkpoints`, `Attempts`, `Certified`, `Held`), and where it lets time pass (`TimeStops`). `laws` carries
+//! what is proved of them besides.
 #![tactic(auto)]
 
 mod active;
@@ -25,9 +27,11 @@ mod held;
 pub mod laws;
 mod phase;
 mod room;
+mod rules;
 mod taking;
 mod walk;
 
 pub use checkpoint::copy_of;
 pub use room::LooseRoom;
+pub use rules::{WalkRules, WalkStops};
 pub use walk::walk_loosely;

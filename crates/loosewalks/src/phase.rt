@@ -65,11 +65,11 @@ pub(crate) fn take_phase(
     machine: &mut Machine<'_>,
 ) -> Result<bool, AllocError>
     requires { IsNetworkOf machine.old.code scope.network.now }
-    ensures passed { IfOk result (λ all. all ≡ true → (limits : Limits) → HasPassedPhase (class_in scope.entry.classes.now) limits machine.old scope.entry.network.now members.now way.new.items machine.new) }
+    ensures passed { IfOk result (λ all. all ≡ true → (limits : Limits) → HasPassedPhase (class_in scope.entry.rules.classes.now) limits machine.old scope.entry.network.now members.now way.new.items machine.new) }
     ensures code { machine.new.code ≡ machine.old.code }
 {
     let begin = Begin::of(scope.alloc, machine)?;
-    if !take_active(machine, scope.classes, way)? {
+    if !take_active(machine, scope.rules.classes, way)? {
         return Ok(false);
     }
     settle_since(scope.alloc, &begin, machine, scope.network, members)

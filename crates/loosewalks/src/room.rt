@@ -1,9 +1,10 @@
-//! What a walk works in, and what it goes by.
+//! What a walk works in, and what each of its steps goes by.
+
+use crate::rules::WalkRules;
 use certificates::certificate::Certificate;
 use certificates::note::StepNote;
 use combinational::Network;
 use loose::transition::LooseTransition;
-use model::end::Limits;
 use std::alloc::Global;
 use turn::TurnLog;
 
@@ -39,12 +40,10 @@ impl LooseRoom {
     }
 }
 
-/// What a walk goes by: the combinational processes of its design, the classes of the registers, which say which updates wait for each
-/// other, and the limits of a run.
+/// What each step of a walk goes by: the combinational processes of its design, and the rules of the walk.
 #[derive(Clone, Copy)]
 pub(crate) struct WalkScope<'a> {
     pub(crate) alloc: Global,
     pub(crate) network: &'a Network,
-    pub(crate) classes: &'a [u32],
-    pub(crate) limits: Limits,
+    pub(crate) rules: WalkRules<'a>,
 }

@@ -4,10 +4,10 @@ use Rattle.model.specs.declared.entry.Entry.{Entry}
 use Rattle.model.specs.declared.end.End.{End}
 use Rattle.design.specs.Compiled.{Compiled}
 use Rattle.explore.specs.declared.Shown.{Shown}
-use Rattle.races.specs.declared.causes.Causes.{Causes}
-use Rattle.races.specs.declared.told.Cause.{Cause}
+use Rattle.causes.specs.declared.causes.Causes.{Causes}
+use Rattle.causes.specs.declared.parting_race.PartingRace.{PartingRace}
 use Rattle.races.specs.declared.told.Found.{Found}
-use Rattle.races.specs.declared.told.RaceBounds.{RaceBounds}
+use Rattle.conflicts.specs.declared.bounds.RaceBounds.{RaceBounds}
 use Rattle.verdict.specs.declared.race.RaceDescription.{RaceDescription}
 use Rattle.verdict.specs.RaceLines.{race_text, unnamed_text}
 use Rattle.locations.specs.declared.location.ProcessLocation.{ProcessLocation}
@@ -61,7 +61,7 @@ three old a b c mid next new one two last =
     last ∙ (ap (λ l. l ++ c) (two ∙ ap (λ l. l ++ b) one) ∙ (append_assoc (old ++ a) b c ∙ append_assoc old a (b ++ c)))
 
 -- the lines on races that part texts, on each race of a first run, and then by what their list was cut
-pub tells_behind : {A E : Type 0} (r : Result A E) (source : List ℕ) (begins : List ProcessLocation) (code : Compiled) (shown : List (Shown Entry End)) (prefix : Option (List ℕ)) (race_bounds : RaceBounds) (found : Found) (causes : List Cause) (old mid next new : List ℕ)
+pub tells_behind : {A E : Type 0} (r : Result A E) (source : List ℕ) (begins : List ProcessLocation) (code : Compiled) (shown : List (Shown Entry End)) (prefix : Option (List ℕ)) (race_bounds : RaceBounds) (found : Found) (causes : List PartingRace) (old mid next new : List ℕ)
     → AreProcessesOf source begins → TellsEach (IsCauseTold begins code shown prefix) 1 causes old mid → TellsEach (IsFoundTold begins code shown prefix found.original) (length causes + 1) found.races.items mid next
     → OnOk r (new ≡ next ++ list_end_text race_bounds found.cut) → OnOk r (TellsBehind source code shown prefix race_bounds found causes old new)
 tells_behind (Ok x) source begins code shown prefix race_bounds found causes old mid next new of_source parting each at = record {

@@ -6,12 +6,12 @@ use Rattle.model.specs.declared.end.End.{End}
 use Rattle.design.specs.Compiled.{Compiled}
 use Rattle.explore.specs.declared.Shown.{Shown}
 use Rattle.runs.specs.declared.run.RunRecord.{RunRecord}
-use Rattle.races.specs.declared.told.Cause.{Cause}
-use Rattle.races.specs.declared.causes.Causes.{Causes}
+use Rattle.causes.specs.declared.parting_race.PartingRace.{PartingRace}
+use Rattle.causes.specs.declared.causes.Causes.{Causes}
 use Rattle.races.specs.declared.told.Race as found_race
-use Rattle.races.specs.declared.told.Bound.{Bound}
+use Rattle.conflicts.specs.declared.bounds.Bound.{Bound}
 use Rattle.races.specs.declared.told.Found.{Found}
-use Rattle.races.specs.declared.told.RaceBounds.{RaceBounds}
+use Rattle.conflicts.specs.declared.bounds.RaceBounds.{RaceBounds}
 use Rattle.accesses.specs.declared.role.Role as found_role
 use Rattle.verdict.specs.VerdictLines.{IsFirstDifference, HaveSameLines}
 use Rattle.verdict.specs.declared.race.RaceDescription.{RaceDescription}
@@ -71,7 +71,7 @@ abbrev pub IsFoundTold : List ProcessLocation → Compiled → List (Shown Entry
 IsFoundTold begins code shown prefix original number race told = IsRaceTold begins code shown prefix original number race told
 
 -- a race that parts texts is told with a number, by both of its runs
-abbrev pub IsCauseTold : List ProcessLocation → Compiled → List (Shown Entry End) → Option (List ℕ) → ℕ → Cause → RaceDescription → Type 0
+abbrev pub IsCauseTold : List ProcessLocation → Compiled → List (Shown Entry End) → Option (List ℕ) → ℕ → PartingRace → RaceDescription → Type 0
 IsCauseTold begins code shown prefix number cause told = IsRaceTold begins code shown prefix cause.original number cause.race told
 
 -- the lines on races
@@ -91,7 +91,7 @@ unnamed_lines (n ∷ ns) = unnamed_text n ++ unnamed_lines ns
 
 -- What was found in the design of a source is told in these lines: races that part texts, and then those of a first run, one after another, each process by where
 -- it begins, and by what the list of the latter was cut, if it was.
-pub record TellsRaces (source : List ℕ) (code : Compiled) (shown : List (Shown Entry End)) (prefix : Option (List ℕ)) (race_bounds : RaceBounds) (found : Found) (causes : List Cause) (lines : List ℕ) : Type 0 where
+pub record TellsRaces (source : List ℕ) (code : Compiled) (shown : List (Shown Entry End)) (prefix : Option (List ℕ)) (race_bounds : RaceBounds) (found : Found) (causes : List PartingRace) (lines : List ℕ) : Type 0 where
   pub begins : List ProcessLocation
   pub of_source : AreProcessesOf source begins
   pub parting : List RaceDescription
@@ -101,7 +101,7 @@ pub record TellsRaces (source : List ℕ) (code : Compiled) (shown : List (Shown
   pub lines_is : lines ≡ races_text parting ++ (races_text told ++ list_end_text race_bounds found.cut)
 
 -- a text has grown by lines that tell what was found
-pub record TellsBehind (source : List ℕ) (code : Compiled) (shown : List (Shown Entry End)) (prefix : Option (List ℕ)) (race_bounds : RaceBounds) (found : Found) (causes : List Cause) (old new : List ℕ) : Type 0 where
+pub record TellsBehind (source : List ℕ) (code : Compiled) (shown : List (Shown Entry End)) (prefix : Option (List ℕ)) (race_bounds : RaceBounds) (found : Found) (causes : List PartingRace) (old new : List ℕ) : Type 0 where
   pub lines : List ℕ
   pub tells : TellsRaces source code shown prefix race_bounds found causes lines
   pub new_is : new ≡ old ++ lines

@@ -1,9 +1,9 @@
 -- The words in which a race is told.
 use Rattle.std.specs.Prelude.{◌≡◌, ℕ, List, Some, codes, slice_get}
 use Rattle.design.specs.Compiled.{Compiled}
-use Rattle.races.specs.declared.told.Bound.{Bound}
-use Rattle.races.specs.declared.told.Bound.TheVariants as bounds
-use Rattle.races.specs.declared.told.RaceBounds.{RaceBounds}
+use Rattle.conflicts.specs.declared.bounds.Bound.{Bound}
+use Rattle.conflicts.specs.declared.bounds.Bound.TheVariants as bounds
+use Rattle.conflicts.specs.declared.bounds.RaceBounds.{RaceBounds}
 use Rattle.accesses.specs.declared.role.Does.{Does}
 use Rattle.accesses.specs.declared.role.Does.TheVariants.{Writes, Assigns, Updates, Reads, Waits, Prints, Strobes, Finishes, Runs, Schedules}
 use Rattle.accesses.specs.declared.role.Site as found

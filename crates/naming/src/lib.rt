@@ -1,6 +1,6 @@
 //! The races of a design, in lines.
 //!
-//! `push_races` puts the races that the crate `races` found behind a text, in the words of `verdict`: the register by its name, each
+//! `push_races` puts the races that the crates `races` and `causes` found behind a text, in the words of `verdict`: the register by its name, each
 //! process by the line in which it begins, the line in which the two runs differ, and the numbers of their journals; and then by what
 //! the list of races was cut, if it was.
 //!

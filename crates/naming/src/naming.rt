@@ -6,12 +6,14 @@ ghost use Rattle.naming.specs.Naming.{HasJournal, IsCauseTold, IsDifferenceTold,
 
 use crate::words::{cut_of, site_of, word_of};
 use accesses::are_same;
+use causes::{Causes, PartingRace};
+use conflicts::{Bound, RaceBounds};
 use design::Design;
 use explore::Shown;
 use locations::processes;
 use model::end::End;
 use model::entry::Entry;
-use races::{Bound, Cause, Causes, Found, RaceBounds};
+use races::{Found, Race};
 use runs::run::RunRecord;
 use std::alloc::{AllocError, Global};
 use tokens::cut::CutFault;
@@ -46,7 +48,7 @@ pub fn push_races<'a>(
     text: &mut Vec<u8>,
     names: &RaceNames<'a>,
     found: &'a Found,
-    causes: &'a [Cause],
+    causes: &'a [PartingRace],
 ) -> Result<(), AllocError>
     ensures { OnOk result (TellsBehind names.entry.now.source.now names.entry.now.design.now names.entry.now.shown.now (option_map (λ path. path.now) names.entry.now.prefix) names.entry.now.race_bounds found.entry.now causes.entry.now text.old.items text.new.items) }
 {
@@ -99,7 +101,7 @@ fn push_parting<'a>(
     names: &RaceNames<'a>,
     processes: &[locations::ProcessLocation],
     number: usize,
-    causes: &'a [Cause],
+    causes: &'a [PartingRace],
 ) -> Result<(), AllocError>
     requires { number + length causes.now ≤ 18446744073709551615 }
     ensures { OnOk result (TellsEach (IsCauseTold processes.now names.entry.now.design.now names.entry.now.shown.now (option_map (λ path. path.now) names.entry.now.prefix)) number causes.entry.now text.old.items text.new.items) }
@@ -179,7 +181,7 @@ fn told_race<'a>(
     names: &RaceNames<'a>,
     processes: &[locations::ProcessLocation],
     original: &'a RunRecord,
-    race: &'a races::Race,
+    race: &'a Race,
     number: usize,
 ) -> RaceDescription<'a>
     ensures { IsRaceTold processes.now names.entry.now.design.now names.entry.now.shown.now (option_map (λ path. path.now) names.entry.now.prefix) original.entry.now number race.entry.now result }

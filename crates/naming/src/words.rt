@@ -4,8 +4,8 @@ ghost use Rattle.accesses.specs.declared.role.Site.TheVariants as sites;
 ghost use Rattle.naming.specs.RaceWords.{cut_of, access_word, IsSiteTold};
 
 use accesses::Does;
+use conflicts::{Bound, RaceBounds};
 use design::{Design, RegId};
-use races::{Bound, RaceBounds};
 use verdict::{ListCut, SiteDescription};
 
 /// The most entries between two changes of the regions that are compared with one another.

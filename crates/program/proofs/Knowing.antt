@@ -18,7 +18,7 @@ use Rattle.runs.specs.Compared.{IsWhole}
 use Rattle.runs.specs.declared.run.RunRecord.{RunRecord}
 use Rattle.races.specs.declared.told.Found.{Found}
 use Rattle.races.specs.declared.told.Race.{Race}
-use Rattle.races.specs.declared.told.RaceBounds.{RaceBounds}
+use Rattle.conflicts.specs.declared.bounds.RaceBounds.{RaceBounds}
 use Rattle.arguments.specs.declared.search_options.SearchOptions.{SearchOptions}
 use Rattle.program.specs.declared.known.KnownTexts.{KnownTexts}
 use Rattle.program.specs.Findings.{AreFew, AreKnown, AreRaces, HasGrown, IsKnown, IsLawfulShown, IsShownRun, limits_in}

@@ -13,10 +13,10 @@ use Rattle.sharing.specs.Parts.{Extends}
 use Rattle.explore.specs.Search.{AreDistinct, IsShown}
 use Rattle.model.specs.Texts as orders
 use Rattle.races.specs.declared.told.Found.{Found}
-use Rattle.races.specs.declared.told.RaceBounds.{RaceBounds}
-use Rattle.races.specs.Causes.{AreCauses, HasAnswer}
-use Rattle.races.specs.declared.causes.Causes.{Causes}
-use Rattle.races.specs.declared.told.Cause.{Cause}
+use Rattle.conflicts.specs.declared.bounds.RaceBounds.{RaceBounds}
+use Rattle.causes.specs.Causes.{AreCauses, HasAnswer}
+use Rattle.causes.specs.declared.causes.Causes.{Causes}
+use Rattle.causes.specs.declared.parting_race.PartingRace.{PartingRace}
 use Rattle.naming.specs.Naming.{TellsBehind, TellsMore, TellsMoreBehind, TellsRaces}
 use Rattle.verdict.specs.declared.claim.Claim.{Claim}
 use Rattle.verdict.specs.declared.claim.Claim.TheVariants.{Every, SoFar, Sampled}
@@ -178,7 +178,7 @@ pub journals_alone : (ss : List (Shown Entry End)) → map (λ s. s.moves.items)
 journals_alone ss = sym (none_behind (map (λ s. s.moves.items) ss))
 
 -- lines that tell races behind a text that is empty
-pub tells_alone : (source : List ℕ) (code : Compiled) (shown : List (Shown Entry End)) (prefix : Option (List ℕ)) (race_bounds : RaceBounds) (found : Found) (causes : List Cause) (empty lines : List ℕ) → empty ≡ []
+pub tells_alone : (source : List ℕ) (code : Compiled) (shown : List (Shown Entry End)) (prefix : Option (List ℕ)) (race_bounds : RaceBounds) (found : Found) (causes : List PartingRace) (empty lines : List ℕ) → empty ≡ []
     → TellsBehind source code shown prefix race_bounds found causes empty lines → TellsRaces source code shown prefix race_bounds found causes lines
 tells_alone source code shown prefix race_bounds found causes empty lines none h = subst (TellsRaces source code shown prefix race_bounds found causes) (sym (h.new_is ∙ ap (λ l. l ++ h.lines) none)) h.tells
 
@@ -192,7 +192,7 @@ pub record IsToldBehind (source : List ℕ) (code : Compiled) (search_options : 
   pub more : List ℕ
   pub is_more : IsToldMore source code search_options prefix races shown more
   pub said : List ℕ
-  pub is_said : IsToldLast search_options prefix claim shown said
+  pub is_said : IsToldLast search_options prefix races.found.original.end claim shown said
   pub last_is : last ≡ more ++ said
 
 -- what was told before a search of the races that part texts
@@ -205,7 +205,7 @@ pub early_answered : (source : List ℕ) (code : Compiled) (search_options : Sea
 early_answered source code search_options prefix early a b (first, is_first, begins) many = is_first.answered (subst (λ (n : ℕ). 1 < n) is_first.texts many)
 
 pub told_behind : (source : List ℕ) (code : Compiled) (search_options : SearchOptions) (prefix : Option (List ℕ)) (races : NamedRaces) (claim : Claim) (shown texts : List (Shown Entry End)) (more said lines last : List ℕ) → texts ≡ shown
-    → IsToldMore source code search_options prefix races texts more → IsToldLast search_options prefix claim shown said → lines ≡ said → last ≡ more ++ lines → IsToldBehind source code search_options prefix races claim shown last
+    → IsToldMore source code search_options prefix races texts more → IsToldLast search_options prefix races.found.original.end claim shown said → lines ≡ said → last ≡ more ++ lines → IsToldBehind source code search_options prefix races claim shown last
 told_behind source code search_options prefix races claim shown texts more said lines last same told is_said are is = record {
   more = more;
   is_more = subst (λ (ss : List (Shown Entry End)). IsToldMore source code search_options prefix races ss more) same told;

@@ -1,8 +1,11 @@
 -- What a search of lawful orders finds, what it claims, and how its exit status tells it.
-use Rattle.std.specs.Prelude.{◌≡◌, ◌⊎◌, ℕ, ◌+◌, ◌==◌, ◌≤◌, Bool, true, false, nat_lt, if◌then◌else◌, List, [], ◌∷◌, ◌++◌, length, map, Option, Some, None, IfSome, Result, Ok, Err, option_map, string_bytes}
+use Rattle.std.specs.Prelude.{◌≡◌, ◌⊎◌, ℕ, ◌+◌, ◌==◌, ◌≤◌, Bool, true, false, nat_lt, if◌then◌else◌, List, [], ◌∷◌, ◌++◌, length, map, Option, Some, None, IfSome, Result, Ok, Err, option_map, string_bytes, codes}
 use Rattle.std.specs.List.{All, AllPairs}
 use Rattle.model.specs.declared.entry.Entry.{Entry}
 use Rattle.model.specs.declared.end.End.{End}
+use Rattle.model.specs.declared.end.End.TheVariants as ending
+use Rattle.model.specs.declared.end.Why.{Why}
+use Rattle.model.specs.declared.end.Why.TheVariants as why
 use Rattle.model.specs.declared.end.Limits.{Limits}
 use Rattle.model.specs.Texts.{IsLawfulText, AreAllTexts}
 use Rattle.design.specs.Compiled.{Compiled, design_of}
@@ -16,9 +19,9 @@ use Rattle.runs.specs.Compared.{IsWhole}
 use Rattle.seeded.specs.Seeds.{AreSampled}
 use Rattle.runs.specs.declared.run.RunRecord.{RunRecord}
 use Rattle.model.specs.Texts as orders
-use Rattle.races.specs.Races as conflicts
+use Rattle.races.specs.Races as shown_races
 use Rattle.races.specs.declared.told.Found.{Found}
-use Rattle.races.specs.declared.told.RaceBounds.{RaceBounds}
+use Rattle.conflicts.specs.declared.bounds.RaceBounds.{RaceBounds}
 use Rattle.verdict.specs.declared.claim.Claim.{Claim}
 use Rattle.verdict.specs.declared.claim.Claim.TheVariants.{Every, SoFar, Sampled}
 use Rattle.verdict.specs.declared.claim.SearchStop.{SearchStop}
@@ -50,6 +53,44 @@ few_of (Sampled orders) count = finding.Unfinished
 -- what so many texts are, of which this is claimed
 abbrev pub finding_of : Claim → ℕ → SearchFinding
 finding_of claim count = if nat_lt 1 count then finding.Several else few_of claim count
+
+-- a search was stopped by a limit, and not by want of memory
+abbrev pub is_limit : SearchStop → Bool
+is_limit (States most) = true
+is_limit (Texts most) = true
+is_limit (Entries most) = true
+is_limit (Megabytes most) = true
+is_limit Memory = false
+
+-- it is claimed that a search met a limit
+abbrev pub met_limit : Claim → Bool
+met_limit (Every states endless) = false
+met_limit (SoFar search_stop) = is_limit search_stop
+met_limit (Sampled orders) = false
+
+-- a run has the most entries
+abbrev pub has_most : Why → Bool
+has_most why.Entries = true
+has_most why.Finish = false
+has_most why.Until = false
+has_most (why.TooLong process) = false
+has_most why.Time = false
+has_most why.Memory = false
+
+-- a run was stopped by its most entries
+abbrev pub is_cut : End → Bool
+is_cut ending.Quiet = false
+is_cut ending.Running = false
+is_cut (ending.Stopped why) = has_most why
+
+-- no time is given, a search met a limit, and the first run was stopped by its most entries
+abbrev pub wants_until : Option ℕ → Claim → End → Bool
+wants_until (Some time) claim end = false
+wants_until None claim end = if met_limit claim then is_cut end else false
+
+-- so the option is named that ends a run
+abbrev pub until_line : Option ℕ → Claim → End → List ℕ
+until_line until claim end = if wants_until until claim end then codes "a run that never stops wants --until T\n" else []
 
 -- P, where it is claimed that the texts are all
 abbrev pub OnEvery : Claim → Type 0 → Type 0
@@ -181,9 +222,9 @@ HaveSomeEnds shown true = HaveOneEnd shown → ⊥
 -- the bounds hold within which they were looked for.
 pub record AreRaces (design : Compiled) (limits : Limits) (race_bounds : RaceBounds) (found : Found) : Type 0 where
   pub original : recorded.IsRun design limits found.original
-  pub races : All (conflicts.IsShownRace design limits found.original) found.races.items
-  pub distinct : AllPairs conflicts.AreOthers found.races.items
-  pub within : conflicts.IsWithinBounds race_bounds found.races.items found.tried found.cut
+  pub races : All (shown_races.IsShownRace design limits found.original) found.races.items
+  pub distinct : AllPairs shown_races.AreOthers found.races.items
+  pub within : shown_races.IsWithinBounds race_bounds found.races.items found.tried found.cut
 
 -- where a run came to its end, its text and its end are among these, unless as many as may be are
 abbrev pub IsKnown : ℕ → List (Shown Entry End) → RunRecord → Type 0

@@ -1,3 +1,4 @@
+pub mod Presentations
 pub mod Findings
 pub mod ProgramLines
 pub mod Printed

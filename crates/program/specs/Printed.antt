@@ -4,9 +4,9 @@ use Rattle.std.specs.Io.KnownBytes.{Appends, Keeps}
 use Rattle.design.specs.Compiled.{Compiled, design_of}
 use Rattle.model.specs.Syntax.{Module}
 use Rattle.explain.specs.Explained.{IsLawfulJournalText}
-use Rattle.explain.specs.ExplainedText.{ExplainsText, ExplainsTextFault, window_of}
+use Rattle.explain.specs.ExplainedText.{ExplainsText, ExplainsTextFault}
 use Rattle.explain.specs.declared.failure.ExplainFault.TheVariants as explaining
-use Rattle.explain.specs.declared.telling.Window.{Window}
+use Rattle.explain.specs.declared.telling.Presentation.{Presentation}
 use Rattle.differences.specs.declared.comparison.Comparison.{Comparison}
 use Rattle.differences.specs.Comparisons.{IsComparison}
 use Rattle.replay.specs.declared.fault.ReplayFault.{ReplayFault}
@@ -30,17 +30,18 @@ use Rattle.model.specs.declared.end.End.{End}
 use Rattle.model.specs.declared.end.Limits.{Limits}
 use Rattle.explore.specs.declared.Shown.{Shown}
 use Rattle.sharing.specs.Parts.{Extends}
-use Rattle.races.specs.Causes.{AreCauses, HasAnswer}
-use Rattle.races.specs.declared.causes.Causes.{Causes}
+use Rattle.causes.specs.Causes.{AreCauses, HasAnswer}
+use Rattle.causes.specs.declared.causes.Causes.{Causes}
 use Rattle.verdict.specs.declared.claim.Claim.{Claim}
 use Rattle.verdict.specs.Verdicts.{verdict_text}
 use Rattle.naming.specs.Naming.{TellsMore, TellsRaces}
 use Rattle.arguments.specs.declared.search_options.SearchOptions.{SearchOptions}
+use Rattle.program.specs.Presentations.{presentation_in}
 use Rattle.program.specs.declared.racing.NamedRaces.{NamedRaces}
 use Rattle.program.specs.declared.racing.ToldRaces.{ToldRaces}
 use Rattle.program.specs.declared.finding.SearchFinding.{SearchFinding}
 use Rattle.program.specs.declared.finding.SearchFinding.TheVariants as finding
-use Rattle.program.specs.Findings.{AreFound, AreKnown, AreRaces, HaveSomeEnds, finding_of, first_text, journals_of, limits_in}
+use Rattle.program.specs.Findings.{AreFound, AreKnown, AreRaces, HaveSomeEnds, finding_of, first_text, journals_of, limits_in, until_line}
 use Rattle.program.specs.declared.fault.CommandFault.{CommandFault}
 use Rattle.program.specs.declared.fault.Stop.{Stop}
 use Rattle.program.specs.declared.running.LeftByRun.{LeftByRun}
@@ -154,11 +155,11 @@ pub record IsToldMore (source : List ℕ) (design : Compiled) (search_options : 
   pub answered : 1 < length shown → HasAnswer races.found causes
   pub tells : TellsMore source design shown prefix races.bounds races.found (length races.causes.causes.items) causes more
 
--- What is said of texts behind a search: what they are, and whether their ends tell them apart too.
-pub record IsToldLast (search_options : SearchOptions) (prefix : Option (List ℕ)) (claim : Claim) (shown : List (Shown Entry End)) (last : List ℕ) : Type 0 where
+-- What is said of texts behind a search whose first run has this end: what they are, and whether their ends tell them apart too; and which option ends a run, where that one didn't end.
+pub record IsToldLast (search_options : SearchOptions) (prefix : Option (List ℕ)) (end : End) (claim : Claim) (shown : List (Shown Entry End)) (last : List ℕ) : Type 0 where
   pub ends : Bool
   pub apart : HaveSomeEnds shown ends
-  pub text_is : last ≡ verdict_text claim search_options.until (length shown) ends (first_text shown) prefix
+  pub text_is : last ≡ verdict_text claim search_options.until (length shown) ends (first_text shown) prefix ++ until_line search_options.until claim end
 
 -- What is said of a search, after these races were told and these texts were known: texts were found, with those that were known before all others, and further races and
 -- this are told of them.
@@ -171,7 +172,7 @@ pub record HasFound (source : List ℕ) (design : Compiled) (search_options : Se
   pub more : List ℕ
   pub is_more : IsToldMore source design search_options prefix early.races shown more
   pub said : List ℕ
-  pub is_said : IsToldLast search_options prefix claim shown said
+  pub is_said : IsToldLast search_options prefix early.races.found.original.end claim shown said
   pub last_is : last ≡ more ++ said
 
 -- Of the design that the source in a file describes races were told, and then what was found of its texts, so far as this says. Output grew by both, the journals of the texts, and of a run that comes to no
@@ -252,50 +253,45 @@ pub record HasPlayed (holding : Option (List ℕ → List ℕ)) (words : List Te
   pub is_journal : NamesJournal (replay_rows (drop 1 words)) journal
   pub replayed : HasReplayed holding file journal old new
 
--- Output grew by a journal in words, in this window: by a line for each entry that it has, and how the run stands behind them. The
+-- Output grew by a journal in words, in this presentation: by a line for each entry that it has, and how the run stands behind them. The
 -- journal is lawful for the design that the source in a file describes, and what is in the journal's file, where that is known, is its text.
-pub record HasExplained (holding : Option (List ℕ → List ℕ)) (file journal : List ℕ) (window : Window) (old new : Option (List ℕ)) : Type 0 where
+pub record HasExplained (holding : Option (List ℕ → List ℕ)) (file journal : List ℕ) (presentation : Presentation) (old new : Option (List ℕ)) : Type 0 where
   pub source : List ℕ
   pub held : IsHeld holding file source
   pub left : Option (List ℕ)
   pub opened : IsOpened holding journal left
   pub lawful : IsLawfulJournalText source left
-  pub explains : ExplainsText source window left old new
+  pub explains : ExplainsText source presentation left old new
 
 -- So it is of a journal up to its first entry that isn't taken, and output grew by why it isn't.
-pub record HasExplainedFault (holding : Option (List ℕ → List ℕ)) (file journal : List ℕ) (window : Window) (old new : Option (List ℕ)) (fault : ReplayFault) : Type 0 where
+pub record HasExplainedFault (holding : Option (List ℕ → List ℕ)) (file journal : List ℕ) (presentation : Presentation) (old new : Option (List ℕ)) (fault : ReplayFault) : Type 0 where
   pub source : List ℕ
   pub held : IsHeld holding file source
   pub left : Option (List ℕ)
   pub opened : IsOpened holding journal left
-  pub explains : ExplainsTextFault source window left old new fault
+  pub explains : ExplainsTextFault source presentation left old new fault
 
 -- no journal was read, and output is as it was; or one was told up to its fault, and this is that fault
-abbrev pub HasExplainedSome : Option (List ℕ → List ℕ) → List ℕ → List ℕ → Window → Option (List ℕ) → Option (List ℕ) → CommandFault → Type 0
-HasExplainedSome holding file journal window old new f =
-    Keeps old new ⊎ ((fault : ReplayFault) × (f ≡ explain_fault (explaining.Replay fault)) × HasExplainedFault holding file journal window old new fault)
+abbrev pub HasExplainedSome : Option (List ℕ → List ℕ) → List ℕ → List ℕ → Presentation → Option (List ℕ) → Option (List ℕ) → CommandFault → Type 0
+HasExplainedSome holding file journal presentation old new f =
+    Keeps old new ⊎ ((fault : ReplayFault) × (f ≡ explain_fault (explaining.Replay fault)) × HasExplainedFault holding file journal presentation old new fault)
 
--- the window that these words ask for
-abbrev pub window_in : List Text → Window
-window_in words =
-    window_of (unwrap_or (number_given (codes "from") (explain_rows (drop 1 words))) 1) (number_given (codes "to") (explain_rows (drop 1 words)))
-
--- The words name a FILE and a JOURNAL, and no journal was read, or theirs was told on theirs, in the window of these words, up to its fault, and this is that fault.
+-- The words name a FILE and a JOURNAL, and no journal was read, or theirs was told on theirs, in the presentation of these words, up to its fault, and this is that fault.
 pub record HasExplainedPart (holding : Option (List ℕ → List ℕ)) (words : List Text) (old new : Option (List ℕ)) (fault : CommandFault) : Type 0 where
   pub file : List ℕ
   pub is_file : NamesFile (explain_rows (drop 1 words)) file
   pub journal : List ℕ
   pub is_journal : NamesJournal (explain_rows (drop 1 words)) journal
-  pub some : HasExplainedSome holding file journal (window_in words) old new fault
+  pub some : HasExplainedSome holding file journal (presentation_in words) old new fault
 
--- The words ask to be told their JOURNAL on their FILE, and it was told in the window of these words.
+-- The words ask to be told their JOURNAL on their FILE, and it was told in the presentation of these words.
 pub record HasExplainedByWords (holding : Option (List ℕ → List ℕ)) (words : List Text) (old new : Option (List ℕ)) (files files' : Option (List MadeFile)) : Type 0 where
   pub begins : Begins words (codes "explain")
   pub file : List ℕ
   pub is_file : NamesFile (explain_rows (drop 1 words)) file
   pub journal : List ℕ
   pub is_journal : NamesJournal (explain_rows (drop 1 words)) journal
-  pub explained : HasExplained holding file journal (window_in words) old new
+  pub explained : HasExplained holding file journal (presentation_in words) old new
   pub unsaved : KeepsFiles files files'
 
 -- This is the value change dump of a journal on the design of a source: the text of the journal's wave, in a scope with the name of

@@ -51,6 +51,7 @@ module_line (elaboration.BadIndex name) = program_line (codes "E8 bit index of "
 module_line elaboration.LongDelay = program_line (codes "E9 delay over 4294967295") [] []
 module_line elaboration.Memory = program_line (codes "E10 memory") [] []
 
+-- the line of a fault of a source
 abbrev pub source_line : SourceFault → List ℕ
 source_line (source.Parse f) = parse_line f
 source_line (source.Elaborate f) = module_line f
@@ -74,11 +75,12 @@ unread_with tail reading.Uncounted = program_line (codes "Q7 journal cut") [] ta
 abbrev pub read_line : ReadFault → List ℕ
 read_line f = unread_with [] f
 
--- which of two journals has a fault: before the number of an entry, and behind a fault of its text
+-- which of two journals has a fault, before the number of an entry
 abbrev pub entry_head : JournalSide → List ℕ
 entry_head sides.First = codes "first journal: entry "
 entry_head sides.Second = codes "second journal: entry "
 
+-- and behind a fault of its text
 abbrev pub journal_tail : JournalSide → List ℕ
 journal_tail sides.First = codes " (first journal)"
 journal_tail sides.Second = codes " (second journal)"

@@ -1,25 +1,25 @@
 //! `diff FILE J1 J2`: FILE is read, and J1 and J2 are opened. Both journals are read and taken to their ends, and then compared; last
 //! what is told of them is written.
 
-ghost use Rattle.std.specs.Prelude.{◌≡◌, ◌≢◌, IfErr, IfOk, IfSome, List};
+ghost use Rattle.std.specs.Prelude.{◌≢◌, IfErr, IfOk, List};
 ghost use Rattle.clap.specs.Words.{Text};
 ghost use Rattle.std.specs.Io.KnownBytes.{Keeps};
 ghost use Rattle.arguments.specs.CommandWords.{AsksDiff};
 ghost use Rattle.differences.specs.Comparisons.{IsComparison};
 ghost use Rattle.files.specs.Saved.{KeepsFiles};
 ghost use Rattle.journal.specs.Counted.{held};
-ghost use Rattle.model.specs.Journal.{IsJournal};
 ghost use Rattle.program.specs.Printed.{ComparesJournals, HasEnded};
 ghost use Rattle.program.specs.Program.{status_of};
 
 use crate::ending::Ending;
 use crate::fault::{CommandFault, JournalFault};
+use crate::reading::{CommandJournal, entries_of};
 use arguments::DiffRequest;
 use design::Design;
 use differences::{CompareFault, Comparison, JournalSide, compare};
 use files::{Files, open_file, read_file, send_off, show_bytes};
 use frontend::read_design;
-use journal::{Counted, read_journal};
+use journal::Counted;
 use model::entry::Entry;
 use progress::Progress;
 use std::alloc::Global;
@@ -56,45 +56,42 @@ fn compare_read<R: Read + Drop, P: Progress>(
     ensures { IfOk result (ComparesJournals source.now (R.remaining first) (R.remaining second)) }
 {
     let design = read_design(alloc, source)?;
-    let ones = entries_of(alloc, first, JournalSide::First)?;
-    let others = entries_of(alloc, second, JournalSide::Second)?;
-    comparison_of(
-        alloc,
+    let ones = entries_of(alloc, first, CommandJournal::Side(JournalSide::First))?;
+    let others = entries_of(alloc, second, CommandJournal::Side(JournalSide::Second))?;
+    let read = ReadJournals {
         source,
-        &design,
-        ones.as_slice(),
-        others.as_slice(),
-        progress,
-    )
+        design: &design,
+        first: ones.as_slice(),
+        second: others.as_slice(),
+    };
+    comparison_of(alloc, read, progress)
 }
 
-/// The entries of one of two journals, which is left to read.
-fn entries_of<R: Read + Drop>(
-    alloc: Global,
-    journal: R,
-    side: JournalSide,
-) -> Result<Vec<Entry>, CommandFault<'static>>
-    ensures { IfSome (R.remaining journal) (λ bytes. IfOk result (λ entries. IsJournal bytes entries.items)) }
-{
-    let mut journal = Counted::new(journal);
-    match read_journal(alloc, &mut journal) {
-        Ok(entries) => Ok(entries),
-        Err(fault) => Err(CommandFault::Journal(side, JournalFault::Read(fault))),
-    }
+/// Two journals on the design of a source.
+#[derive(Clone, Copy)]
+struct ReadJournals<'a> {
+    source: &'a [u8],
+    design: &'a Design,
+    first: &'a [Entry],
+    second: &'a [Entry],
 }
 
 /// What is told of two journals on the design of a source.
 fn comparison_of<P: Progress>(
     alloc: Global,
-    source: &[u8],
-    design: &Design,
-    first: &[Entry],
-    second: &[Entry],
+    read: ReadJournals<'_>,
     progress: &P,
 ) -> Result<Comparison, CommandFault<'static>>
-    ensures { IfOk result (IsComparison source.now design.now first.now second.now) }
+    ensures { IfOk result (IsComparison read.entry.source.now read.entry.design.now read.entry.first.now read.entry.second.now) }
 {
-    let compared = compare(alloc, source, design, first, second, progress);
+    let compared = compare(
+        alloc,
+        read.source,
+        read.design,
+        read.first,
+        read.second,
+        progress,
+    );
     progress.end();
     match compared {
         Ok(told) => Ok(told),

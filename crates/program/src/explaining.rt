@@ -4,15 +4,16 @@ ghost use Rattle.std.specs.Prelude.{◌≡◌, IfErr, List, OnOk, Option, ℕ};
 ghost use Rattle.std.specs.Io.KnownBytes.{Keeps};
 ghost use Rattle.journal.specs.Counted.{held};
 ghost use Rattle.files.specs.Saved.{IsHeld, IsOpened, KeepsFiles};
-ghost use Rattle.explain.specs.ExplainedText.{window_of};
+ghost use Rattle.program.specs.Presentations.{presentation_for, told_style};
 ghost use Rattle.program.specs.Printed.{HasExplained, HasExplainedSome};
 ghost use Rattle.program.specs.Program.{explain_fault, status_of};
 
 use crate::fault::CommandFault;
 use arguments::ExplainRequest;
-use explain::{ExplainFault, Window, explain};
+use explain::{EntryStyle, ExplainFault, Presentation, explain};
 use files::{Files, open_file, read_file, send_off};
 use journal::Counted;
+use literals::Radix;
 use progress::Progress;
 use replay::BytesFault;
 use std::alloc::Global;
@@ -25,8 +26,8 @@ pub fn explain_journal<'a, F: Files, O: Write>(
     files: &mut F,
     out: &mut O,
 ) -> Result<(), CommandFault<'a>>
-    ensures explained { OnOk result (HasExplained (F.held files.old) request.now.file.now request.now.journal.now (window_of request.now.from request.now.to) (O.contents out.old) (O.contents out.new)) }
-    ensures refused { IfErr result (λ fault. status_of fault ≡ 5 → HasExplainedSome (F.held files.old) request.now.file.now request.now.journal.now (window_of request.now.from request.now.to) (O.contents out.old) (O.contents out.new) fault) }
+    ensures explained { OnOk result (HasExplained (F.held files.old) request.now.file.now request.now.journal.now (presentation_for request.now) (O.contents out.old) (O.contents out.new)) }
+    ensures refused { IfErr result (λ fault. status_of fault ≡ 5 → HasExplainedSome (F.held files.old) request.now.file.now request.now.journal.now (presentation_for request.now) (O.contents out.old) (O.contents out.new) fault) }
     ensures nothing { IfErr result (λ fault. status_of fault ≡ 3 → Keeps (O.contents out.old) (O.contents out.new)) }
     ensures unsaved { KeepsFiles (F.made files.old) (F.made files.new) }
 {
@@ -36,10 +37,20 @@ pub fn explain_journal<'a, F: Files, O: Write>(
         alloc,
         source.as_slice(),
         &mut journal,
-        Window::between(request.from, request.to),
+        Presentation::between(request.from, request.to, style()),
         out,
         &files.progress_beside_output(),
     )
+}
+
+/// The style in which a journal is told: binary values, and versions.
+fn style() -> EntryStyle
+    ensures { result ≡ told_style }
+{
+    EntryStyle {
+        radix: Radix::Binary,
+        versions: true,
+    }
 }
 
 /// Tells a journal that is left to read on the design of a source.
@@ -47,15 +58,15 @@ fn explain_bytes<R: Read, O: Write, P: Progress>(
     alloc: Global,
     source: &[u8],
     journal: &mut Counted<R>,
-    window: Window,
+    presentation: Presentation,
     out: &mut O,
     progress: &P,
 ) -> Result<(), CommandFault<'static>>
-    ensures explained { (holding : Option (List ℕ → List ℕ)) (file journal_file : List ℕ) → IsHeld holding file source.now → IsOpened holding journal_file (R.remaining (held journal.old)) → OnOk result (HasExplained holding file journal_file window (O.contents out.old) (O.contents out.new)) }
-    ensures refused { (holding : Option (List ℕ → List ℕ)) (file journal_file : List ℕ) → IsHeld holding file source.now → IsOpened holding journal_file (R.remaining (held journal.old)) → IfErr result (λ fault. status_of fault ≡ 5 → HasExplainedSome holding file journal_file window (O.contents out.old) (O.contents out.new) fault) }
+    ensures explained { (holding : Option (List ℕ → List ℕ)) (file journal_file : List ℕ) → IsHeld holding file source.now → IsOpened holding journal_file (R.remaining (held journal.old)) → OnOk result (HasExplained holding file journal_file presentation (O.contents out.old) (O.contents out.new)) }
+    ensures refused { (holding : Option (List ℕ → List ℕ)) (file journal_file : List ℕ) → IsHeld holding file source.now → IsOpened holding journal_file (R.remaining (held journal.old)) → IfErr result (λ fault. status_of fault ≡ 5 → HasExplainedSome holding file journal_file presentation (O.contents out.old) (O.contents out.new) fault) }
     ensures nothing { IfErr result (λ fault. status_of fault ≡ 3 → Keeps (O.contents out.old) (O.contents out.new)) }
 {
-    let told = explain(alloc, source, journal, window, out, progress);
+    let told = explain(alloc, source, journal, presentation, out, progress);
     progress.end();
     match told {
         Ok(()) => {

@@ -7,7 +7,7 @@ ghost use Rattle.design.specs.Compiled.{Compiled};
 ghost use Rattle.explore.specs.Search.{Differs, IsShown};
 ghost use Rattle.runs.specs.RunRecords.{IsRun};
 ghost use Rattle.arguments.specs.Options.{CanSearch};
-ghost use Rattle.races.specs.declared.told.RaceBounds.{RaceBounds};
+ghost use Rattle.conflicts.specs.declared.bounds.RaceBounds.{RaceBounds};
 ghost use Rattle.program.specs.Findings.{AreFew, AreKnown, AreRaces, HasGrown, IsKnown, IsLawfulShown, IsShownRun, limits_in};
 
 use arguments::SearchOptions;

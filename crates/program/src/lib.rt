@@ -4,7 +4,7 @@
 //!
 //! 1. `running` is a run, `replaying` a replay, `checking` a check, `waving` a value change dump, `explaining` a journal in words,
 //!    `differing` two journals beside each other, and `searching` a search for races: `racing` tells them first, `known` has texts that are known then, and `finding` says what it has
-//!    come to. `observing` looks on at a run on workers.
+//!    come to. `observing` looks on at a run on workers, and `reading` reads a journal whole.
 //! 2. `ending` is how a command ended: it has the status, and tells what is to be told.
 //! 3. `fault` has the faults with their statuses, and `lines` their lines on standard error.
 //! 4. `program` is the whole program as a function, `command`, which `main` calls.
@@ -21,6 +21,7 @@ mod lines;
 mod observing;
 mod program;
 mod racing;
+mod reading;
 mod replaying;
 mod running;
 mod sampling;

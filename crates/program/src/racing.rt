@@ -6,7 +6,7 @@ ghost use Rattle.model.specs.Runs.{last_time};
 ghost use Rattle.sharing.specs.Parts.{Extends};
 ghost use Rattle.naming.specs.Naming.{TellsMore, TellsRaces};
 ghost use Rattle.arguments.specs.Options.{CanSearch};
-ghost use Rattle.races.specs.Causes.{AreCauses, HasAnswer};
+ghost use Rattle.causes.specs.Causes.{AreCauses, HasAnswer};
 ghost use Rattle.program.specs.Findings.{AreKnown, AreRaces, limits_in};
 ghost use Rattle.program.specs.Printed.{IsToldFirst, IsToldMore};
 ghost use Rattle.program.specs.Program.{status_of};
@@ -14,6 +14,8 @@ ghost use Rattle.program.specs.Program.{status_of};
 use crate::fault::CommandFault;
 use crate::known::known_texts;
 use arguments::{RacesRequest, SearchOptions};
+use causes::{CauseSearch, Causes, PartingRace};
+use conflicts::RaceBounds;
 use design::Design;
 use explore::Shown;
 use files::show_bytes;
@@ -21,12 +23,12 @@ use model::end::{End, Limits};
 use model::entry::Entry;
 use naming::{RaceNames, push_more_races, push_races};
 use progress::Progress;
-use races::{Cause, CauseSearch, Causes, Found, RaceBounds, find_races};
+use races::{Found, find_races};
 use std::alloc::{AllocError, Global};
 use std::io::Write;
 
-/// How many second runs are made to name races, how many races are named at most, and how many entries these runs have together; so it is of races of the first run,
-/// and of those that part texts.
+/// How many second runs are made to name races, how many races are named at most, and how many entries these runs have together; so it is
+/// of races of the first run, and of those that part texts.
 const RACE_BOUNDS: RaceBounds = RaceBounds {
     pairs: 1000,
     races: 64,
@@ -220,7 +222,7 @@ fn race_lines<'a>(
     alloc: Global,
     names: &RaceNames<'a>,
     found: &'a Found,
-    causes: &'a [Cause],
+    causes: &'a [PartingRace],
 ) -> Result<Vec<u8>, AllocError>
     ensures { IfOk result (λ lines. TellsRaces names.entry.now.source.now names.entry.now.design.now names.entry.now.shown.now (option_map (λ path. path.now) names.entry.now.prefix) names.entry.now.race_bounds found.entry.now causes.entry.now lines.items) }
 {

@@ -7,7 +7,7 @@ ghost use Rattle.sharing.specs.Parts.{Extends};
 ghost use Rattle.explore.specs.Search.{AreDistinct};
 ghost use Rattle.std.specs.List.{All, AllPairs};
 ghost use Rattle.frontend.specs.Sources.{IsDesignOf};
-ghost use Rattle.program.specs.Findings.{AreFound, HaveSomeEnds, IsLawfulShown, claim_of, finding_of, first_text, journals_of, limits_in, or_full, search_stop_of, unless_stopped};
+ghost use Rattle.program.specs.Findings.{AreFound, HaveSomeEnds, IsLawfulShown, claim_of, finding_of, first_text, has_most, is_cut, is_limit, journals_of, limits_in, met_limit, or_full, search_stop_of, unless_stopped, until_line, wants_until};
 ghost use Rattle.arguments.specs.Options.{CanSearch};
 ghost use Rattle.program.specs.Program.{status_of};
 ghost use Rattle.program.specs.Printed.{HasLeft, HasShown, IsToldLast};
@@ -25,7 +25,7 @@ use explore::{Bounds, Explored, Shown, Stopped};
 use files::{Files, read_file, save_all, show_bytes, spare_first, try_first};
 use frontend::read_design;
 use lawful::lawful_orders;
-use model::end::{End, Limits};
+use model::end::{End, Limits, Why};
 use model::entry::Entry;
 use naming::RaceNames;
 use progress::Progress;
@@ -77,6 +77,7 @@ fn search_design<F: Files, O: Write>(
     try_first(alloc, request.journals, files)?;
     let early = tell_races(alloc, source, design, request, out, &files.progress())?;
     let ToldRaces { known, races } = early;
+    let end = races.found.original.end;
     let texts = find_texts(
         alloc,
         design,
@@ -93,7 +94,7 @@ fn search_design<F: Files, O: Write>(
     };
     let search_options = request.search_options;
     let more = more_lines(alloc, &names, search_options, races, &files.progress())?;
-    let said = last_lines(alloc, &texts, search_options, request.journals)?;
+    let said = last_lines(alloc, &texts, search_options, request.journals, end)?;
     let last = joined(more, said.as_slice())?;
     tell_texts(alloc, texts, last.as_slice(), request, files, out)
 }
@@ -304,14 +305,81 @@ fn joined(lines: Vec<u8>, others: &[u8]) -> Result<Vec<u8>, AllocError>
     Ok(all)
 }
 
-/// What is said of the texts.
+/// Whether a search was stopped by a limit, and not by want of memory.
+fn is_limit(search_stop: SearchStop) -> bool
+    ensures { result ≡ is_limit search_stop }
+{
+    match search_stop {
+        SearchStop::States(_)
+        | SearchStop::Texts(_)
+        | SearchStop::Entries(_)
+        | SearchStop::Megabytes(_) => true,
+        SearchStop::Memory => false,
+    }
+}
+
+/// Whether it is claimed that a search met a limit.
+fn met_limit(claim: Claim) -> bool
+    ensures { result ≡ met_limit claim }
+{
+    match claim {
+        Claim::Every { .. } => false,
+        Claim::SoFar(search_stop) => is_limit(search_stop),
+        Claim::Sampled(_) => false,
+    }
+}
+
+/// Whether a run has the most entries.
+fn has_most(why: Why) -> bool
+    ensures { result ≡ has_most why }
+{
+    match why {
+        Why::Entries => true,
+        Why::Finish | Why::Until | Why::TooLong(_) | Why::Time | Why::Memory => false,
+    }
+}
+
+/// Whether a run was stopped by its most entries.
+fn is_cut(end: End) -> bool
+    ensures { result ≡ is_cut end }
+{
+    match end {
+        End::Quiet => false,
+        End::Running => false,
+        End::Stopped(why) => has_most(why),
+    }
+}
+
+/// Whether no time was given, the search met a limit, and the first run was stopped by its most entries, which an option of time would end.
+fn wants_until(until: Option<u64>, claim: Claim, end: End) -> bool
+    ensures { result ≡ wants_until until claim end }
+{
+    match until {
+        Some(_) => false,
+        None => { if met_limit(claim) { is_cut(end) } else { false } }
+    }
+}
+
+/// The line that names the option which ends a run, where it is wanted.
+fn until_line(until: Option<u64>, claim: Claim, end: End) -> &'static [u8]
+    ensures { result.now ≡ until_line until claim end }
+{
+    if wants_until(until, claim, end) {
+        b"a run that never stops wants --until T\n"
+    } else {
+        b""
+    }
+}
+
+/// What is said of the texts, where the first run has this end.
 fn last_lines<'a>(
     alloc: Global,
     texts: &'a FoundTexts,
     search_options: SearchOptions,
     prefix: Option<&'a str>,
+    end: End,
 ) -> Result<Vec<u8>, AllocError>
-    ensures { IfOk result (λ last. IsToldLast search_options (option_map (λ path. path.now) prefix.entry) texts.entry.now.claim texts.entry.now.shown.items last.items) }
+    ensures { IfOk result (λ last. IsToldLast search_options (option_map (λ path. path.now) prefix.entry) end texts.entry.now.claim texts.entry.now.shown.items last.items) }
 {
     let shown = texts.shown.as_slice();
     let verdict = Verdict {
@@ -324,6 +392,7 @@ fn last_lines<'a>(
     };
     let mut last = Vec::new(alloc);
     push_verdict(&mut last, &verdict)?;
+    last.extend_from_slice(until_line(search_options.until, texts.claim, end))?;
     Ok(last)
 }
 

@@ -1,26 +1,23 @@
 //! `waves FILE JOURNAL --out OUT`: an OUT that is FILE or JOURNAL is refused. FILE is read, JOURNAL is opened and read, and OUT is begun.
 //! Then the registers over time are written to OUT as a value change dump, and OUT stands in its place.
 
-ghost use Rattle.std.specs.Prelude.{Some, IfOk, IfSome, List, OnErr, OnOk, Option, ℕ};
+ghost use Rattle.std.specs.Prelude.{Some, IfOk, List, OnErr, OnOk, Option, ℕ};
 ghost use Rattle.clap.specs.Words.{Text};
 ghost use Rattle.arguments.specs.CommandWords.{AsksWaves};
-ghost use Rattle.journal.specs.Counted.{held};
 ghost use Rattle.files.specs.Saved.{KeepsFiles, LeadsElsewhere};
-ghost use Rattle.model.specs.Journal.{IsJournal};
 ghost use Rattle.program.specs.Printed.{HasDumped, HasEnded, IsDumpOf};
 
 use crate::ending::Ending;
 use crate::fault::CommandFault;
+use crate::reading::{CommandJournal, entries_of};
 use arguments::WavesRequest;
 use design::Design;
 use files::{Files, begin_at, open_file, read_file, save_text, spare_source};
 use frontend::{SourceFault, read_design};
-use journal::{Counted, read_journal};
 use model::entry::Entry;
 use progress::Progress;
 use replay::BytesFault;
 use std::alloc::Global;
-use std::io::Read;
 use vparse::parse;
 use waves::{WaveFault, value_change_dump, waves};
 
@@ -41,7 +38,7 @@ pub fn dump_waves<'a, F: Files>(
     let source = read_file(alloc, request.file, files)?;
     let journal = open_file(request.journal, files)?;
     let design = read_design(alloc, source.as_slice())?;
-    let entries = entries_of(alloc, journal)?;
+    let entries = entries_of(alloc, journal, CommandJournal::Only)?;
     let target = begin_at(request.out, files)?;
     let text = dump_of(
         alloc,
@@ -52,20 +49,6 @@ pub fn dump_waves<'a, F: Files>(
     )?;
     save_text(text.as_slice(), request.out, target, files)?;
     Ok(Ending::Done)
-}
-
-/// The entries of a journal that is left to read.
-fn entries_of<R: Read + Drop>(
-    alloc: Global,
-    journal: R,
-) -> Result<Vec<Entry>, CommandFault<'static>>
-    ensures { IfSome (R.remaining journal) (λ bytes. IfOk result (λ entries. IsJournal bytes entries.items)) }
-{
-    let mut journal = Counted::new(journal);
-    match read_journal(alloc, &mut journal) {
-        Ok(entries) => Ok(entries),
-        Err(fault) => Err(CommandFault::Replay(BytesFault::Read(fault))),
-    }
 }
 
 /// The text of the registers over time, in a scope with the name of the module.

@@ -1,3 +1,2 @@
--- Lemmas of lists, of races beside others, and of those that part texts.
+-- Lemmas of lists, and of races beside others.
 pub mod Kept
-pub mod Parted

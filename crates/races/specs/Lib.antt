@@ -1,3 +1,1 @@
-pub mod RunEndings
 pub mod Races
-pub mod Causes

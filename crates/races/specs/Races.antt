@@ -9,9 +9,9 @@ use Rattle.runs.specs.declared.run.RunRecord.{RunRecord}
 use Rattle.runs.specs.RunRecords.{IsRun}
 use Rattle.runs.specs.Compared.{AreDifferentRuns, WantsNoMemory}
 use Rattle.races.specs.declared.told.Race.{Race}
-use Rattle.races.specs.declared.told.RaceBounds.{RaceBounds}
-use Rattle.races.specs.declared.told.Bound.{Bound}
-use Rattle.races.specs.declared.told.Bound.TheVariants.{Races, Pairs}
+use Rattle.conflicts.specs.declared.bounds.RaceBounds.{RaceBounds}
+use Rattle.conflicts.specs.declared.bounds.Bound.{Bound}
+use Rattle.conflicts.specs.declared.bounds.Bound.TheVariants.{Races, Pairs}
 use Rattle.races.specs.declared.trials.Trials.{Trials}
 use Rattle.accesses.specs.declared.role.Role.{Role}
 use Rattle.accesses.specs.declared.pair.Pair.{Pair}
@@ -72,3 +72,7 @@ HasTried bounds old new = IsTrying bounds new × (new.races ≡ old.races) × (o
 abbrev pub AreToldRaces : Compiled → Limits → RunRecord → RaceBounds → Trials → Type 0
 AreToldRaces code limits original bounds t =
     IsTrying bounds t × All (IsShownRace code limits original) t.races.items × AllPairs AreOthers t.races.items
+
+-- a run of every design, within any limits: one of no entries, for which there was no memory
+abbrev pub IsOfAnyDesign : RunRecord → Type 0
+IsOfAnyDesign run = (code : Compiled) (limits : Limits) → IsRun code limits run

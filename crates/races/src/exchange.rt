@@ -1,14 +1,13 @@
 //! The second run of a conflict, in which the order of its two entries is turned.
 ghost use Rattle.std.specs.Prelude.{IfOk, IfSome};
 ghost use Rattle.runs.specs.RunRecords.{IsRun};
-ghost use Rattle.races.specs.RunEndings.{IsUnderWay, HasGoneOn, EndsAt};
+ghost use Rattle.conflicts.specs.RunEndings.{IsUnderWay, HasFollowed, HasGoneOn, HasGoneTo};
 
-use crate::conflicts::{Conflict, Turning};
-use crate::follow::{follow_made, follow_on, follow_segment, lead_all, repeat};
-use crate::journaled_machine::JournaledMachine;
+use crate::follow::{follow_made, follow_on, follow_segment, lead_all};
+use crate::guide::Guide;
 use crate::race_search::RaceSearch;
-use crate::transitions::{Guide, next_change};
 use accesses::{Pair, lead};
+use conflicts::{Conflict, JournaledMachine, Turning, next_change, repeat};
 use model::end::End;
 use model::entry::Entry;
 use progress::Progress;
@@ -63,12 +62,13 @@ pub(crate) enum Order {
     Kept,
 }
 
-// How a second run is led: the search and the pair that it is for, what it takes behind the entries before the pair, by the places of
-// their transitions, and how many entries it may have.
+// How a second run is led: the search and the pair that it is for, how the order of that is turned, what it takes behind the entries before
+// the pair, by the places of their transitions, and how many entries it may have.
 #[derive(Clone, Copy)]
 struct Lead<'a> {
     task: RaceSearch<'a>,
     pair: Pair,
+    turning: Turning,
     places: &'a [usize],
     most: u64,
 }
@@ -136,8 +136,7 @@ impl<'a> Lead<'a> {
         progress: &P,
     ) -> Result<Option<End>, AllocError>
         requires { IsUnderWay run.old }
-        ensures went { HasGoneOn run.old run.new }
-        ensures ends { IfOk result (λ end. IfSome end (EndsAt run.new)) }
+        ensures { HasFollowed run.old run.new result }
     {
         if !self.repeat_before(run) {
             return Ok(None);
@@ -161,8 +160,7 @@ impl<'a> Lead<'a> {
     // not be taken, or the run hasn't finished.
     fn cut_off(self, run: &mut JournaledMachine<'_>) -> Option<End>
         requires { IsUnderWay run.old }
-        ensures went { HasGoneOn run.old run.new }
-        ensures ends { IfSome result (EndsAt run.new) }
+        ensures { HasGoneTo run.old run.new result }
     {
         if !self.take_all(run) {
             return None;
@@ -179,8 +177,7 @@ impl<'a> Lead<'a> {
         progress: &P,
     ) -> Option<End>
         requires { IsUnderWay run.old }
-        ensures went { HasGoneOn run.old run.new }
-        ensures ends { IfSome result (EndsAt run.new) }
+        ensures { HasGoneTo run.old run.new result }
     {
         if !self.repeat_before(run) {
             return None;
@@ -208,8 +205,7 @@ impl<'a> Lead<'a> {
     // where one may not be taken, or it has as many entries as it may have.
     fn kept<P: Progress>(self, run: &mut JournaledMachine<'_>, progress: &P) -> Option<End>
         requires { IsUnderWay run.old }
-        ensures went { HasGoneOn run.old run.new }
-        ensures ends { IfSome result (EndsAt run.new) }
+        ensures { HasGoneTo run.old run.new result }
     {
         if !self.take_all(run) {
             return None;
@@ -218,21 +214,21 @@ impl<'a> Lead<'a> {
         follow_on(run, &mut guide, self.most, progress)
     }
 
-    // Leads a run as the order of the pair's entries is turned.
-    fn turned<P: Progress>(
+    // Leads a run as the order of the pair's entries is turned, or kept.
+    fn led<P: Progress>(
         self,
+        order: Order,
         run: &mut JournaledMachine<'_>,
-        turning: Turning,
         progress: &P,
     ) -> Result<Option<End>, AllocError>
         requires { IsUnderWay run.old }
-        ensures went { HasGoneOn run.old run.new }
-        ensures ends { IfOk result (λ end. IfSome end (EndsAt run.new)) }
+        ensures { HasFollowed run.old run.new result }
     {
-        match turning {
-            Turning::Swapped => self.swapped(run, progress),
-            Turning::CutOff => Ok(self.cut_off(run)),
-            Turning::HeldBack(other) => Ok(self.held_back(other, run, progress)),
+        match (order, self.turning) {
+            (Order::Kept, _) => Ok(self.kept(run, progress)),
+            (Order::Turned, Turning::Swapped) => self.swapped(run, progress),
+            (Order::Turned, Turning::CutOff) => Ok(self.cut_off(run)),
+            (Order::Turned, Turning::HeldBack(other)) => Ok(self.held_back(other, run, progress)),
         }
     }
 }
@@ -279,17 +275,11 @@ pub(crate) fn exchange<P: Progress>(
     let lead = Lead {
         task,
         pair: conflict.pair,
+        turning: conflict.turning,
         places: &places,
         most,
     };
-    let end = match order {
-        Order::Turned => lead.turned(&mut run, conflict.turning, progress),
-        Order::Kept => Ok(lead.kept(&mut run, progress)),
-    };
+    let end = lead.led(order, &mut run, progress);
     *left = most.saturating_sub(run.journal.len() as u64);
-    match end {
-        Ok(Some(end)) => Ok(Some(run.told(task.alloc, end))),
-        Ok(None) => Ok(None),
-        Err(error) => Err(error),
-    }
+    run.told_if(task.alloc, end)
 }

@@ -4,8 +4,7 @@ ghost use Rattle.std.specs.Option.{ForSome};
 ghost use Rattle.model.specs.Runs.{last_time};
 ghost use Rattle.runs.specs.Compared.{WantsNoMemory};
 
-use crate::told::RaceBounds;
-use crate::transitions::RunTransition;
+use conflicts::{RaceBounds, RunTransition};
 use design::Design;
 use model::end::Limits;
 use runs::run::RunRecord;

@@ -2,14 +2,13 @@
 ghost use Rattle.std.specs.Prelude.{◌≡◌, []};
 ghost use Rattle.std.specs.List.{All, AllPairs};
 ghost use Rattle.runs.specs.RunRecords.{IsRun};
-ghost use Rattle.races.specs.RunEndings.{HasTimeLimit, IsOfAnyDesign};
-ghost use Rattle.races.specs.Races.{AreOthers, IsShownRace, IsWithinBounds};
+ghost use Rattle.conflicts.specs.RunEndings.{HasTimeLimit};
+ghost use Rattle.races.specs.Races.{AreOthers, IsOfAnyDesign, IsShownRace, IsWithinBounds};
 
-use crate::journaled_machine::JournaledMachine;
 use crate::race_search::RaceSearch;
-use crate::recorder::{RunRecorder, record_run};
-use crate::told::{Bound, Found, RaceBounds};
+use crate::told::Found;
 use crate::trials::{Trials, try_all};
+use conflicts::{Bound, JournaledMachine, RaceBounds, RunRecorder, record_run};
 use design::Design;
 use model::end::{End, Limits, Why};
 use progress::Progress;

@@ -1,16 +1,14 @@
 //! The tries of conflicts, and the races that they show.
 ghost use Rattle.std.specs.Prelude.{◌≡◌, ◌<◌, [], false, length, IfOk, IfNone, IfSome, IsTrue, Some, vec_len};
 ghost use Rattle.std.specs.List.{All, AllPairs};
-ghost use Rattle.accesses.specs.Roles.{HasBothOrders};
-ghost use Rattle.design.specs.Compiled.{design_of};
 ghost use Rattle.races.specs.Races.{AreOfSame, AreOthers, IsNewBeside, IsRaceOf, IsSecond, IsShownRace, IsTrying, HasTried, AreToldRaces};
-ghost use Rattle.races.specs.declared.told.Bound.TheVariants.{Races, Pairs};
+ghost use Rattle.conflicts.specs.declared.bounds.Bound.TheVariants.{Races, Pairs};
 
-use crate::conflicts::{Conflict, Conflicts, Turning};
 use crate::exchange::{Order, exchange};
 use crate::race_search::RaceSearch;
-use crate::told::{Bound, Race};
-use accesses::{ExchangeClaim, Pair, Site};
+use crate::told::Race;
+use accesses::{Pair, Site};
+use conflicts::{Bound, Conflict, Conflicts, has_both_orders, is_order};
 use progress::Progress;
 use runs::compared::{are_apart, wants_memory};
 use runs::run::RunRecord;
@@ -33,7 +31,7 @@ fn is_same_site(one: Site, other: Site) -> bool
 }
 
 /// Whether a race is for the site of a pair, and of the same two processes.
-pub(crate) fn is_of(race: &Race, pair: Pair) -> bool
+pub fn is_of(race: &Race, pair: Pair) -> bool
     ensures { result ≡ false → race.now.site ≡ pair.site → AreOfSame race.now.first race.now.second pair.first pair.second → ⊥ }
 {
     let (one, other) = (race.first.process, race.second.process);
@@ -43,7 +41,7 @@ pub(crate) fn is_of(race: &Race, pair: Pair) -> bool
 }
 
 /// Whether a race of a pair's site and processes is told.
-pub(crate) fn is_told(races: &[Race], pair: Pair) -> bool
+pub fn is_told(races: &[Race], pair: Pair) -> bool
     ensures new { result ≡ false → IsNewBeside races.now pair }
     ensures some { IsTrue result → 0 < length races.now }
 {
@@ -53,14 +51,6 @@ pub(crate) fn is_told(races: &[Race], pair: Pair) -> bool
         }
     }
     false
-}
-
-/// Whether a site is an order of lines or of updates.
-pub(crate) fn is_order(site: Site) -> bool {
-    match site {
-        Site::Printing | Site::Strobing | Site::Updating => true,
-        Site::Register(_) | Site::Finishing => false,
-    }
 }
 
 // Whether a process is one of a race's two.
@@ -83,47 +73,6 @@ fn is_covered(races: &[Race], pair: Pair) -> bool {
             is_named(races, pair.site, race.time, first)
                 && is_named(races, pair.site, race.time, second)
         })
-}
-
-// How many entries a second run has between the one that it takes in a place and the first run's entry of that place.
-fn count_between(one: &RunRecord, other: &RunRecord, place: usize) -> usize {
-    let last = match one.journal.get(place).copied() {
-        Some(last) => last,
-        None => return 0,
-    };
-    let from = place.saturating_add(1);
-    for at in from..other.journal.len() {
-        if other.journal[at] == last {
-            return at - from;
-        }
-    }
-    0
-}
-
-/// Whether the two runs of a conflict have its entries in both orders.
-pub(crate) fn has_both_orders(
-    task: RaceSearch<'_>,
-    conflict: &Conflict,
-    exchanged: &RunRecord,
-) -> Result<bool, AllocError>
-    ensures { IfOk result (λ has. IsTrue has → HasBothOrders (design_of task.entry.design.now) task.entry.original.now.journal.items exchanged.now.journal.items conflict.now.pair.site conflict.now.pair.time conflict.now.pair.first conflict.now.pair.second) }
-{
-    let claim = ExchangeClaim {
-        alloc: task.alloc,
-        design: task.design,
-        journal: &task.original.journal,
-        exchanged: &exchanged.journal,
-        pair: conflict.pair,
-    };
-    let before = conflict.before.steps.count();
-    match conflict.turning {
-        Turning::Swapped => claim.is_confirmed(before),
-        Turning::CutOff => claim.is_cut_off(before),
-        Turning::HeldBack(_) => {
-            let between = count_between(task.original, exchanged, conflict.pair.earlier);
-            claim.is_held_back(between)
-        }
-    }
 }
 
 // What cut the list of conflicts: none of the bounds of the tries.
@@ -174,7 +123,7 @@ fn race_of(
     ensures shown { IfOk result (λ race. IfSome race (IsShownRace task.entry.design.now task.entry.limits task.entry.original.now)) }
     ensures of { IfOk result (λ race. IfSome race (IsRaceOf conflict.now.pair)) }
 {
-    match has_both_orders(task, conflict, &exchanged) {
+    match has_both_orders(task.alloc, task.design, conflict, task.original, &exchanged) {
         Ok(true) => Ok(Some(Race {
             site: conflict.pair.site,
             time: conflict.pair.time,
@@ -338,7 +287,8 @@ impl Trials {
         }
     }
 
-    // Tries a conflict within the bounds, unless a race of its group is told, or its processes are among those whose lines come in another order at one time.
+    // Tries a conflict within the bounds, unless a race of its group is told, or its processes are among those whose lines come in another
+    // order at one time.
     fn try_conflict<P: Progress>(&mut self, task: RaceSearch<'_>, conflict: &Conflict, progress: &P)
         requires { AreToldRaces task.design.now task.limits task.original.now task.bounds self.old }
         ensures { AreToldRaces task.entry.design.now task.entry.limits task.entry.original.now task.entry.bounds self.new }
@@ -378,14 +328,14 @@ impl Trials {
     fn try_rounds<P: Progress>(
         &mut self,
         task: RaceSearch<'_>,
-        conflicts: &Conflicts,
+        rounds: &[Vec<Conflict>],
         order: bool,
         progress: &P,
     )
         requires { AreToldRaces task.design.now task.limits task.original.now task.bounds self.old }
         ensures { AreToldRaces task.entry.design.now task.entry.limits task.entry.original.now task.entry.bounds self.new }
     {
-        for round in conflicts.rounds.iter() {
+        for round in rounds {
             self.try_round(task, round.as_slice(), order, progress);
         }
     }
@@ -401,7 +351,8 @@ pub(crate) fn try_all<P: Progress>(
     ensures { AreToldRaces task.entry.design.now task.entry.limits task.entry.original.now task.entry.bounds result }
 {
     let mut trials = Trials::new(task, conflicts);
-    trials.try_rounds(task, conflicts, false, progress);
-    trials.try_rounds(task, conflicts, true, progress);
+    let rounds = conflicts.rounds.as_slice();
+    trials.try_rounds(task, rounds, false, progress);
+    trials.try_rounds(task, rounds, true, progress);
     trials
 }

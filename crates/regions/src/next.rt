@@ -1,5 +1,5 @@
 //! What may be next: the change of the regions that is due, and all entries that the rules permit.
-ghost use Rattle.std.specs.Prelude.{◌≡◌, ◌↔◌, List, ◌++◌, map, IfOk, OnOk, IsSome, IsTrue, None, Some, false};
+ghost use Rattle.std.specs.Prelude.{◌≡◌, ◌↔◌, List, ◌++◌, map, IfOk, OnOk, IsSome, None, Some, false};
 ghost use Rattle.std.specs.List.{Contains};
 ghost use Rattle.logic4.specs.Vector.{Vector};
 ghost use Rattle.model.specs.declared.entry.Entry.{Entry};
@@ -13,6 +13,7 @@ ghost use Rattle.regions.specs.EvaluationEntries.{turn_entry_of};
 use crate::choices::Choices;
 use crate::queue::{Evaluation, Queue};
 use crate::region::Region;
+use model::end::LAST_TIME;
 use model::entry::Entry;
 use std::alloc::{AllocError, Global};
 
@@ -50,28 +51,20 @@ impl Queue {
         }
     }
 
-    // Whether this change of the regions comes next.
-    pub fn is_next(&self, change: Entry) -> bool
-        requires ordered { IsOrderedQueue self.now }
-        ensures { (rem : ProcState → Remainder) (values : List Vector) → IsTrue result ↔ IsNextChange (state_of rem values (core_of self.now)) change }
-    {
-        match self.next_change() {
-            Some(next) => next == change,
-            None => false,
-        }
-    }
-
     // The change of the regions that the rules permit.
     pub fn due(&self) -> Option<Entry>
         requires ordered { IsOrderedQueue self.now }
         ensures { (rem : ProcState → Remainder) (values : List Vector) → IsDue (state_of rem values (core_of self.now)) result }
     {
+        if self.finished {
+            return None;
+        }
         let Some(change) = self.next_change() else {
             return None;
         };
-        match self.refusal(&change) {
-            None => Some(change),
-            Some(_) => None,
+        match change {
+            Entry::Advance(time) => { if LAST_TIME < time { None } else { Some(change) } }
+            _ => Some(change),
         }
     }
 

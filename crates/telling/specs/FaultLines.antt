@@ -53,13 +53,15 @@ subject_text (Path path) = shown_path path.now
 abbrev pub line_of : SubjectLine → List ℕ
 line_of l = program_line l.head.now (subject_text l.subject) l.tail.now
 
--- those up to its subject, those behind it, and those from it on
+-- those up to its subject
 abbrev pub head_of : SubjectLine → List ℕ
 head_of l = codes "vsimtx: " ++ l.head.now
 
+-- those behind it
 abbrev pub end_of : SubjectLine → List ℕ
 end_of l = l.tail.now ++ 10 ∷ []
 
+-- those from it on
 abbrev pub rest_of : SubjectLine → List ℕ
 rest_of l = subject_text l.subject ++ end_of l
 

@@ -17,7 +17,7 @@ use std::sync::Wait;
 /// So many steps of the glitch, further steps, and what the gate leaves: how many tickets, its journal, how many of the entries are each seat's, how the
 /// run ends, and its lines.
 #[derive(Clone, Copy)]
-struct Row<'a> {
+struct GateExample<'a> {
     source: &'a str,
     max_entries: u32,
     glitches: usize,
@@ -29,7 +29,7 @@ struct Row<'a> {
     lines: &'a str,
 }
 
-const PLAIN: Row<'static> = Row {
+const PLAIN: GateExample<'static> = GateExample {
     source: COPY,
     max_entries: 1_000,
     glitches: 0,
@@ -80,9 +80,9 @@ pub const THRICE: &[SeatStep<'static>] = &[
     (TWO, Act::Late(3, &[], Other::Takes(&[2])), Told::Stale(3)),
 ];
 
-const EXAMPLES: &[Row<'static>] = &[
+const EXAMPLES: &[GateExample<'static>] = &[
     // a turn alone stands
-    Row {
+    GateExample {
         source: "module t; reg [3:0] r; initial r=4'd9; endmodule",
         steps: &[&[
             (ONE, Act::Turn(0), Told::Entry(T0)),
@@ -94,7 +94,7 @@ const EXAMPLES: &[Row<'static>] = &[
     },
     // four processes give a register two values each: of the values that a turn gives it each one that differs from the one before
     // is a version
-    Row {
+    GateExample {
         source: "module t; reg [7:0] a; initial begin a=8'd2; a=8'd3; end initial begin a=8'd3; a=8'd2; end initial begin a=8'd3; a=8'd2; end initial begin a=8'd2; a=8'd2; end endmodule",
         steps: &[&[
             (ONE, Act::Turn(0), Told::Entry(T0)),
@@ -111,7 +111,7 @@ const EXAMPLES: &[Row<'static>] = &[
         ..PLAIN
     },
     // five updates, of which the second wakes a process: they are made in order, up to one that does so and as far as there is room
-    Row {
+    GateExample {
         source: "module t; reg a, b; initial begin a<=1'b0; b<=1'b1; a<=1'b1; a<=1'b0; a<=1'b1; end initial @(b) $display(\"b is %b\",b); endmodule",
         steps: &[&[
             (ONE, Act::Turn(1), Told::Entry(T1)),
@@ -142,7 +142,7 @@ const EXAMPLES: &[Row<'static>] = &[
         ..PLAIN
     },
     // a turn that reads a register before another turn writes it is refused, and evaluated again it stands
-    Row {
+    GateExample {
         steps: &[&[
             (
                 TWO,
@@ -155,7 +155,7 @@ const EXAMPLES: &[Row<'static>] = &[
         ..PLAIN
     },
     // the same turn is committed first: it gives x to a register that is x, which is no change
-    Row {
+    GateExample {
         steps: &[&[
             (TWO, Act::Turn(1), Told::Entry(T1)),
             (TWO, Act::Read(&[(1, 0, None)]), Told::Nothing),
@@ -165,7 +165,7 @@ const EXAMPLES: &[Row<'static>] = &[
         ..PLAIN
     },
     // a turn that is refused three times is evaluated under the lock
-    Row {
+    GateExample {
         source: WRITERS,
         steps: &[
             THRICE,
@@ -179,7 +179,7 @@ const EXAMPLES: &[Row<'static>] = &[
         ..PLAIN
     },
     // a turn never ends, since it saw one register before another turn and the other after it, and evaluated again it ends
-    Row {
+    GateExample {
         source: MOMENTS,
         steps: &[&[
             (
@@ -193,7 +193,7 @@ const EXAMPLES: &[Row<'static>] = &[
         ..PLAIN
     },
     // a register that came back has changed
-    Row {
+    GateExample {
         source: BACK,
         steps: &[&[
             (ONE, Act::Turn(0), Told::Entry(T0)),
@@ -210,7 +210,7 @@ const EXAMPLES: &[Row<'static>] = &[
         ..PLAIN
     },
     // an equal value is no change
-    Row {
+    GateExample {
         source: BACK,
         steps: &[&[
             (ONE, Act::Turn(0), Told::Entry(T0)),
@@ -224,7 +224,7 @@ const EXAMPLES: &[Row<'static>] = &[
     },
     // a strobe before a nonblocking assignment of the register that it shows, and another at the next time: the monitor region is
     // emptied before an advance
-    Row {
+    GateExample {
         source: "module t; reg a; initial begin a=1'b0; $strobe(\"s %b\",a); a<=1'b1; $display(\"d %b\",a); #1 $strobe(\"t %b\",a); end endmodule",
         steps: &[&[
             (ONE, Act::Turn(0), Told::Entry(T0)),
@@ -241,7 +241,7 @@ const EXAMPLES: &[Row<'static>] = &[
         ..PLAIN
     },
     // a stop comes before a turn under the lock
-    Row {
+    GateExample {
         source: WRITERS,
         steps: &[
             THRICE,
@@ -256,7 +256,7 @@ const EXAMPLES: &[Row<'static>] = &[
         ..PLAIN
     },
     // a stop comes before a turn that is too long is given up
-    Row {
+    GateExample {
         source: MOMENTS,
         steps: &[&[(TWO, Act::Across((1, 0), &[], Other::Stops), STOPPED)]],
         journal: &[T0],
@@ -265,7 +265,7 @@ const EXAMPLES: &[Row<'static>] = &[
         ..PLAIN
     },
     // a stop of a run whose journal is full changes nothing
-    Row {
+    GateExample {
         source: GLITCH,
         max_entries: 3,
         glitches: 3,
@@ -284,7 +284,7 @@ const EXAMPLES: &[Row<'static>] = &[
         ..PLAIN
     },
     // nor does a stop of a quiet run
-    Row {
+    GateExample {
         source: GLITCH,
         glitches: 7,
         steps: &[&[
@@ -303,9 +303,9 @@ const EXAMPLES: &[Row<'static>] = &[
 ];
 
 /// Turns that are committed in one holding of the lock.
-const AT_ONCE: &[Row<'static>] = &[
+const AT_ONCE: &[GateExample<'static>] = &[
     // of two turns that are committed at once the one that read what the other changed is refused, and evaluated again it stands
-    Row {
+    GateExample {
         steps: &[&[
             (
                 ONE,
@@ -323,7 +323,7 @@ const AT_ONCE: &[Row<'static>] = &[
         ..PLAIN
     },
     // turns that read nothing of each other stand in their order
-    Row {
+    GateExample {
         source: APART,
         steps: &[&[(
             ONE,
@@ -382,7 +382,7 @@ const STOPS: [&[&[SeatStep<'static>]]; 7] = [
     &[&[(ONE, Act::Late(4, &[], Other::Stops), STOPPED)], OVER],
 ];
 
-impl SeatPair for Row<'_> {
+impl SeatPair for GateExample<'_> {
     fn lead<K: Naming, R: Wait + Abort>(&mut self, opened: Opened<'_, '_, '_, K, R>) -> Seats<K> {
         let (course, (mut one, mut two), tickets) = opened;
         let mut led = Led::new(course, tickets);
@@ -399,7 +399,7 @@ impl SeatPair for Row<'_> {
 }
 
 // The run of a row leaves what it says, and its journal is replayed to its lines.
-fn assert_row<R: Wait + Abort>(rt: &R, alloc: Global, row: &Row<'_>) {
+fn assert_row<R: Wait + Abort>(rt: &R, alloc: Global, row: &GateExample<'_>) {
     let design = design_of(rt, alloc, row.source);
     let mut work = *row;
     let closed = play_pair(rt, alloc, &design, row.max_entries, &mut work);
@@ -425,7 +425,7 @@ fn turns_that_are_committed_at_once_stand_in_their_order(rt: HostRuntime) {
 #[test]
 fn a_stop_after_any_entry_leaves_what_was_committed(rt: HostRuntime) {
     for (entries, stop) in STOPS.iter().enumerate() {
-        let row = Row {
+        let row = GateExample {
             source: GLITCH,
             glitches: entries,
             steps: stop,

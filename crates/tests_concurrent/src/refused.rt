@@ -272,7 +272,7 @@ fn assert_quiet(rt: &impl Abort, closed: &Closed, entries: usize, lines: &str) {
 
 // A source, the number of entries and the lines of its run, and which calls are refused memory in it.
 #[derive(Clone, Copy)]
-struct Row<'a> {
+struct RefusedSteps<'a> {
     source: &'a str,
     entries: usize,
     lines: &'a str,
@@ -282,7 +282,7 @@ struct Row<'a> {
     rests: bool,
 }
 
-const PLAIN: Row<'static> = Row {
+const PLAIN: RefusedSteps<'static> = RefusedSteps {
     source: COPY,
     entries: 2,
     lines: "",
@@ -293,22 +293,22 @@ const PLAIN: Row<'static> = Row {
 };
 
 /// A copy, a swap, a glitch that wakes a process, and an update that wakes one.
-const ROWS: &[Row<'static>] = &[
+const ROWS: &[RefusedSteps<'static>] = &[
     PLAIN,
-    Row {
+    RefusedSteps {
         source: SWAP,
         entries: 8,
         lines: "1 0\n",
         ..PLAIN
     },
-    Row {
+    RefusedSteps {
         source: GLITCH,
         entries: 7,
         lines: "glitch\n",
         rests: true,
         ..PLAIN
     },
-    Row {
+    RefusedSteps {
         source: UPDATES,
         entries: 6,
         lines: "up 1\n",
@@ -318,7 +318,7 @@ const ROWS: &[Row<'static>] = &[
 ];
 
 // Memory was refused to each of these calls.
-fn assert_refused(rt: &impl Abort, refused: RefusedCalls, row: &Row<'_>) {
+fn assert_refused(rt: &impl Abort, refused: RefusedCalls, row: &RefusedSteps<'_>) {
     holds(
         rt,
         refused.evaluations > 0 || !row.evaluations,
@@ -330,7 +330,7 @@ fn assert_refused(rt: &impl Abort, refused: RefusedCalls, row: &Row<'_>) {
 }
 
 // Memory is refused to the gate of a source, whose run is quiet at last and has these lines.
-fn play<R: Wait + Abort>(rt: &R, alloc: Global, row: &Row<'_>) {
+fn play<R: Wait + Abort>(rt: &R, alloc: Global, row: &RefusedSteps<'_>) {
     let mut starving = Starving { refused: NONE_YET };
     let closed = play_source(rt, alloc, row.source, &mut starving);
     assert_quiet(rt, &closed, row.entries, row.lines);

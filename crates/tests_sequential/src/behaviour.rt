@@ -5,6 +5,8 @@ mod dumps;
 mod event_queue;
 mod held;
 mod journal_text;
+mod observed;
+mod observed_searches;
 mod refused;
 mod replaced;
 mod replayed;

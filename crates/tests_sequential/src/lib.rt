@@ -17,6 +17,7 @@
 //! 6. `dumps` has waves of small designs, and their dumps.
 //! 7. `replaced` has a source and its journal that are cut, and with each byte replaced.
 //! 8. `searches` has searches of all orders of small designs, with their texts, at bounds and in too little memory.
+//! 9. `observed` has what observers see of journals, also in too little memory, and a journal that is found of an observed loose run.
 //!
 //! What sources are accepted, the faults of sources and of journals, the operations and the edges of vectors, the values of literals, operators and
 //! concatenations, and the lines of whole journals are rows of `shown`.

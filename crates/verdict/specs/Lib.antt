@@ -2,3 +2,4 @@ pub mod VerdictLines
 pub mod RaceLines
 pub mod Verdicts
 pub mod CutLines
+pub mod WaveLines

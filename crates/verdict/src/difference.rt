@@ -12,8 +12,8 @@ pub struct Difference<'a> {
     pub second: &'a [u8],
 }
 
-// The length of the first line of a text, with its newline.
-fn line_length(text: &[u8]) -> usize
+/// The length of the first line of a text, with its newline.
+pub fn line_length(text: &[u8]) -> usize
     ensures value { result ≡ spec.line_length text.now }
     ensures within { result ≤ length text.now }
 {

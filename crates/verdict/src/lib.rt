@@ -4,9 +4,10 @@
 //! 2. `verdict` puts into words how many texts there are and what that means for other runs. `phrases` has its parts.
 //! 3. `race` puts a race into lines, or says that none was found between two texts, `difference` finds the first line in which the texts of its two runs differ, and `cut` says by
 //!    what a list of races was cut.
+//! 4. `waves` says the same of waves: of what runs have in common where more or less than their lines, in order, is compared.
 //!
-//! What the layer above uses: `push_verdict`, `push_race`, `push_unnamed` and `push_cut`, whose texts are pinned whole by `specs/Verdicts`, `specs/RaceLines`
-//! and `specs/CutLines`, and `first_difference` (`specs/VerdictLines`).
+//! What the layer above uses: `push_verdict`, `push_race`, `push_unnamed`, `push_cut`, `push_wave` and `push_wave_verdict`, whose texts are pinned whole by
+//! `specs/Verdicts`, `specs/RaceLines`, `specs/CutLines` and `specs/WaveLines`, and `first_difference` and `line_length` (`specs/VerdictLines`).
 #![tactic(auto)]
 
 mod claim;
@@ -15,12 +16,14 @@ mod difference;
 mod phrases;
 mod race;
 mod verdict;
+mod waves;
 
 pub use claim::{Claim, SearchStop};
 pub use cut::{ListCut, push_cut};
-pub use difference::{Difference, first_difference};
+pub use difference::{Difference, first_difference, line_length};
 pub use race::{
     ProcessDescription, RaceDescription, RoleDescription, RunDescription, SiteDescription,
     push_line, push_race, push_unnamed,
 };
 pub use verdict::{Verdict, push_verdict};
+pub use waves::{WaveDescription, WaveSite, WaveVerdict, push_wave, push_wave_verdict};

@@ -202,7 +202,7 @@ pub fn push_line(text: &mut Vec<u8>, number: usize, line: &[u8]) -> Result<(), A
 }
 
 /// Puts what a line is behind a text: quoted without its newline, or missing where the text has ended before.
-fn push_quoted(text: &mut Vec<u8>, line: &[u8]) -> Result<(), AllocError>
+pub(crate) fn push_quoted(text: &mut Vec<u8>, line: &[u8]) -> Result<(), AllocError>
     ensures { OnOk result (text.new.items ≡ text.old.items ++ quoted_line line.now) }
 {
     match line.split_last() {

@@ -50,7 +50,11 @@ fn push_claim(text: &mut Vec<u8>, verdict: &Verdict<'_>) -> Result<(), AllocErro
 }
 
 /// That there may be other texts, and why.
-fn push_so_far(text: &mut Vec<u8>, stop: SearchStop, count: usize) -> Result<(), AllocError>
+pub(crate) fn push_so_far(
+    text: &mut Vec<u8>,
+    stop: SearchStop,
+    count: usize,
+) -> Result<(), AllocError>
     ensures { OnOk result (text.new.items ≡ text.old.items ++ so_far_text stop count) }
 {
     text.extend_from_slice(open_text(count))?;
@@ -69,7 +73,7 @@ fn open_text(count: usize) -> &'static [u8]
 }
 
 /// That the texts are those of so many random orders, and there may be others.
-fn push_sampled(text: &mut Vec<u8>, orders: u32) -> Result<(), AllocError>
+pub(crate) fn push_sampled(text: &mut Vec<u8>, orders: u32) -> Result<(), AllocError>
     ensures { OnOk result (text.new.items ≡ text.old.items ++ sampled_text orders) }
 {
     text.extend_from_slice(b" in ")?;
@@ -78,7 +82,7 @@ fn push_sampled(text: &mut Vec<u8>, orders: u32) -> Result<(), AllocError>
 }
 
 /// That no lawful run comes to an end, and where the journal of one that doesn't is saved, if it is.
-fn push_none(
+pub(crate) fn push_none(
     text: &mut Vec<u8>,
     until: Option<u64>,
     endless: Option<usize>,
@@ -94,7 +98,7 @@ fn push_none(
 }
 
 /// That some lawful runs don't come to an end, where one is known, and where its journal is saved, if it is.
-fn push_endless(
+pub(crate) fn push_endless(
     text: &mut Vec<u8>,
     endless: Option<usize>,
     prefix: Option<&str>,
@@ -130,7 +134,7 @@ fn push_one(
 }
 
 /// That every lawful run that comes to an end has one of several texts.
-fn push_many(
+pub(crate) fn push_many(
     text: &mut Vec<u8>,
     verdict: &Verdict<'_>,
     endless: Option<usize>,

@@ -9,7 +9,7 @@ use std::sync::Wait;
 use std::thread::Threads;
 
 /// A command line, its source and its journal, and what stands on output.
-type Row = (&'static str, &'static str, &'static [u8], &'static str);
+type CutOutput = (&'static str, &'static str, &'static [u8], &'static str);
 
 const HELLO: &str = "module t; initial $display(\"hello\"); endmodule";
 
@@ -20,7 +20,7 @@ const FIRST_TURN: &str = "1  time 0  active  turn of process 0, initial at line 
 const QUIET: &str = "quiet after 0 entries at time 0\n";
 
 /// There is room for this much.
-const CUTS: &[Row] = &[
+const CUTS: &[CutOutput] = &[
     ("vsimtx --help", EMPTY, b"", "Simul"),
     (SAVE, HELLO, b"", "hel"),
     (REPLAY, HI, ONE_TURN, ""),
@@ -33,7 +33,7 @@ const CUTS: &[Row] = &[
 ];
 
 /// All that is printed stands there, and can't be flushed.
-const UNFLUSHED: &[Row] = &[
+const UNFLUSHED: &[CutOutput] = &[
     ("vsimtx run t.v", HI, b"", "hi\n"),
     ("vsimtx run t.v --seed 1", HI, b"", "hi\n"),
     // the stop isn't told then

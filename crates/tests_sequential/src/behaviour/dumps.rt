@@ -36,7 +36,7 @@ const LAST: DumpScope<'static> = DumpScope {
 };
 
 /// A design, a journal, and what its dump has behind the beginning.
-pub type Row<'a> = (DumpScope<'a>, &'a [Entry], &'a str);
+pub type DumpRow<'a> = (DumpScope<'a>, &'a [Entry], &'a str);
 
 /// Two processes that change one register at time 5, in either order.
 const ORDER: DumpScope<'static> = DumpScope {
@@ -46,7 +46,7 @@ const ORDER: DumpScope<'static> = DumpScope {
 };
 
 /// Journals that go to the end, journals that stop before it, and a design without registers.
-pub const DUMPS: &[Row<'static>] = &[
+pub const DUMPS: &[DumpRow<'static>] = &[
     (TWO, &[T0, A5, T1], "1!\nb1x0z \"\n#5\nb0011 \"\n"),
     (TWO, &[T0, A5], "1!\nb1x0z \"\n#5\n"),
     (TWO, &[], ""),
@@ -99,7 +99,12 @@ fn assert_dump(rt: &impl Abort, text: &[u8], head: &str, changes: &str) {
 }
 
 // A dump is the row's, or the line that tells why there is none tells of memory.
-fn assert_told(rt: &impl Abort, alloc: Global, answer: &Result<Vec<u8>, WaveFault>, row: &Row<'_>) {
+fn assert_told(
+    rt: &impl Abort,
+    alloc: Global,
+    answer: &Result<Vec<u8>, WaveFault>,
+    row: &DumpRow<'_>,
+) {
     match answer {
         Ok(bytes) => assert_dump(rt, bytes, row.0.head, row.2),
         Err(fault) => {
@@ -110,7 +115,7 @@ fn assert_told(rt: &impl Abort, alloc: Global, answer: &Result<Vec<u8>, WaveFaul
 }
 
 /// Whether the dump of a row is made in so much memory. If not, it tells of memory.
-pub fn is_dumped(rt: &impl Abort, memory: &mut Scarce, row: &Row<'_>) -> bool {
+pub fn is_dumped(rt: &impl Abort, memory: &mut Scarce, row: &DumpRow<'_>) -> bool {
     let alloc = memory.alloc;
     memory.open(rt);
     let design = design_of(rt, alloc, row.0.source);

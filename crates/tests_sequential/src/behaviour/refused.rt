@@ -32,7 +32,7 @@ pub const SWAP_TEXT: &[u8] = b"vsimtx-journal 1\nT 0\nA 1\nT 1\nN\nU 2\nU 3\nA 2
 
 /// A source, how many registers it has, and of one of its runs the journal's text in both versions, the entries and the lines.
 #[derive(Clone, Copy)]
-struct Row<'a> {
+struct RefusedSource<'a> {
     source: &'a str,
     registers: u64,
     text: &'a [u8],
@@ -42,8 +42,8 @@ struct Row<'a> {
 }
 
 /// A swap, a glitch that wakes a process, and a copy.
-const ROWS: &[Row<'static>] = &[
-    Row {
+const ROWS: &[RefusedSource<'static>] = &[
+    RefusedSource {
         source: SWAP,
         registers: 2,
         text: SWAP_TEXT,
@@ -51,7 +51,7 @@ const ROWS: &[Row<'static>] = &[
         entries: SWAP_JOURNAL,
         lines: b"1 0\n",
     },
-    Row {
+    RefusedSource {
         source: GLITCH,
         registers: 1,
         text: b"vsimtx-journal 1\nT 0\nT 1\nI\nT 3\nA 1\nT 2\nT 4\n",
@@ -59,7 +59,7 @@ const ROWS: &[Row<'static>] = &[
         entries: GLITCH_JOURNAL,
         lines: b"glitch\n",
     },
-    Row {
+    RefusedSource {
         source: COPY,
         registers: 2,
         text: b"vsimtx-journal 1\nT 1\nT 0\n",
@@ -72,11 +72,11 @@ const ROWS: &[Row<'static>] = &[
 /// A call, with a row where it has one.
 #[derive(Clone, Copy)]
 enum RefusedCall<'a> {
-    Design(&'a Row<'a>),
-    Read(&'a Row<'a>),
-    Write(&'a Row<'a>),
-    Replay(&'a Row<'a>),
-    Dump(&'a dumps::Row<'a>),
+    Design(&'a RefusedSource<'a>),
+    Read(&'a RefusedSource<'a>),
+    Write(&'a RefusedSource<'a>),
+    Replay(&'a RefusedSource<'a>),
+    Dump(&'a dumps::DumpRow<'a>),
     Fault,
 }
 
@@ -86,7 +86,7 @@ fn assert_memory(rt: &impl Abort, told: &str) {
 }
 
 // Whether a design is read.
-fn is_design(rt: &impl Abort, memory: &mut Scarce, row: &Row<'_>) -> bool {
+fn is_design(rt: &impl Abort, memory: &mut Scarce, row: &RefusedSource<'_>) -> bool {
     memory.leave(rt);
     let answer = read_design(memory.alloc, row.source.as_bytes());
     memory.open(rt);
@@ -103,7 +103,7 @@ fn is_design(rt: &impl Abort, memory: &mut Scarce, row: &Row<'_>) -> bool {
 }
 
 // Whether a journal is read.
-fn is_journal(rt: &impl Abort, memory: &mut Scarce, row: &Row<'_>) -> bool {
+fn is_journal(rt: &impl Abort, memory: &mut Scarce, row: &RefusedSource<'_>) -> bool {
     memory.leave(rt);
     match read(memory.alloc, row.text) {
         Ok(entries) => {
@@ -129,7 +129,7 @@ fn assert_begun(rt: &impl Abort, fault: Option<WriteFault>, out: &[u8], whole: &
 }
 
 // Whether a journal is written, into room that is there already.
-fn is_written(rt: &impl Abort, memory: &mut Scarce, row: &Row<'_>) -> bool {
+fn is_written(rt: &impl Abort, memory: &mut Scarce, row: &RefusedSource<'_>) -> bool {
     let mut out = Counted::new(memory.room(rt, TEXT));
     memory.leave(rt);
     let fault = write_journal(memory.alloc, &mut out, row.entries).err();
@@ -146,7 +146,7 @@ fn assert_refused_replay(rt: &impl Abort, alloc: Global, fault: &BytesFault, out
 }
 
 // Whether the lines of a replay are written, into room that is there already.
-fn is_replayed(rt: &impl Abort, memory: &mut Scarce, row: &Row<'_>) -> bool {
+fn is_replayed(rt: &impl Abort, memory: &mut Scarce, row: &RefusedSource<'_>) -> bool {
     let alloc = memory.alloc;
     let source = row.source.as_bytes();
     let mut out = Counted::new(memory.room(rt, TEXT));

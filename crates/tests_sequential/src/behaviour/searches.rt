@@ -29,7 +29,7 @@ const RACE: &[u8] =
 /// A search: of which design, up to which time, at which bounds. Then the texts of the design's runs, how many of them are shown,
 /// why there may be others, and whether some orders don't come to an end.
 #[derive(Clone, Copy)]
-struct Row<'a> {
+struct SearchRow<'a> {
     source: &'a [u8],
     until: u64,
     entries: u32,
@@ -41,7 +41,7 @@ struct Row<'a> {
 }
 
 /// With room for all.
-const PLAIN: Row<'static> = Row {
+const PLAIN: SearchRow<'static> = SearchRow {
     source: RACE,
     until: 8,
     entries: 100,
@@ -57,7 +57,7 @@ const PLAIN: Row<'static> = Row {
 };
 
 /// Two such races, one after another.
-const RACES: Row<'static> = Row {
+const RACES: SearchRow<'static> = SearchRow {
     source: b"module t; reg a, b; initial a=1'b0; initial a=1'b1; initial #1 $display(\"%b\",a); initial #2 b=1'b0; initial #2 b=1'b1; initial #3 $display(\"%b\",b); endmodule",
     texts: &["0\n0\n", "0\n1\n", "1\n0\n", "1\n1\n"],
     shown: 4,
@@ -66,19 +66,19 @@ const RACES: Row<'static> = Row {
 
 /// A race after which the run has finished or goes on, with four processes behind it that give one register a value: the text of the first
 /// is shown before the search has come to most of its memory.
-const FINISHED_OR_NOT: Row<'static> = Row {
+const FINISHED_OR_NOT: SearchRow<'static> = SearchRow {
     source: b"module t; reg c; reg [1:0] a; initial #1 c=1'b1; initial #1 if (c) begin $finish; end initial #2 a=2'd0; initial #2 a=2'd1; initial #2 a=2'd2; initial #2 a=2'd3; initial #3 $display(\"%0d\",a); endmodule",
     texts: &["", "0\n", "1\n", "2\n", "3\n"],
     shown: 5,
     ..PLAIN
 };
 
-const ROWS: &[Row<'static>] = &[
+const ROWS: &[SearchRow<'static>] = &[
     PLAIN,
     RACES,
     FINISHED_OR_NOT,
     // two processes at one clock that take each other's value: no order of theirs shows
-    Row {
+    SearchRow {
         source: b"module t; reg clk; reg [7:0] q0, q1; initial #1 clk=1'b0; always #5 clk=~clk; initial q0=8'd1; initial q1=8'd2; always @(posedge clk) q0<=q0+q1; always @(posedge clk) q1<=q1+q0; always @(negedge clk) $display(\"%0d %0d\",q0,q1); endmodule",
         until: 20,
         texts: &["1 2\n3 3\n6 6\n"],
@@ -86,7 +86,7 @@ const ROWS: &[Row<'static>] = &[
         ..PLAIN
     },
     // the same where the clock's first edge races with the first values, and with the process that waits for it
-    Row {
+    SearchRow {
         source: b"module t; reg clk; reg [7:0] q0, q1; initial clk=1'b0; always #5 clk=~clk; initial q0=8'd1; initial q1=8'd2; always @(posedge clk) q0<=q0+q1; always @(posedge clk) q1<=q1+q0; always @(negedge clk) $display(\"%0d %0d\",q0,q1); endmodule",
         until: 10,
         texts: &[
@@ -100,7 +100,7 @@ const ROWS: &[Row<'static>] = &[
         ..PLAIN
     },
     // two processes at one clock that show a line each
-    Row {
+    SearchRow {
         source: b"module t; reg clk; initial clk=1'b0; always #5 clk=~clk; always @(posedge clk) $display(\"a\"); always @(posedge clk) $display(\"b\"); endmodule",
         until: 15,
         texts: &[
@@ -113,7 +113,7 @@ const ROWS: &[Row<'static>] = &[
         ..PLAIN
     },
     // three processes that show a line each, two of them the same one
-    Row {
+    SearchRow {
         source: b"module t; initial $display(\"a\"); initial $display(\"b\"); initial $display(\"b\"); endmodule",
         texts: &["a\nb\nb\n", "b\na\nb\n", "b\nb\na\n"],
         shown: 3,
@@ -121,14 +121,14 @@ const ROWS: &[Row<'static>] = &[
     },
     // a register goes up and down by turns, until another process looks while it is up: there are endless many orders, of which
     // each that ends shows the same
-    Row {
+    SearchRow {
         source: b"module t; reg a; initial a=1'b0; always #0 a=~a; always begin #0 ; if (a) begin $display(\"x\"); $finish; end end endmodule",
         texts: &["x\n"],
         shown: 1,
         ..PLAIN
     },
     // a process that shows a line again and again at one time
-    Row {
+    SearchRow {
         source: b"module t; always #0 $display(\"a\"); endmodule",
         texts: &[],
         shown: 0,
@@ -136,7 +136,7 @@ const ROWS: &[Row<'static>] = &[
         ..PLAIN
     },
     // where the first process is the last, it shows a line and then waits for no time again and again
-    Row {
+    SearchRow {
         source: b"module t; reg a, b; initial begin if (a===1'b1 && b===1'b1) begin $display(\"bad\"); while (1'b1) begin #0 ; end end else begin $display(\"good\"); end end initial a=1'b1; initial b=1'b1; endmodule",
         texts: &["good\n"],
         shown: 1,
@@ -145,7 +145,7 @@ const ROWS: &[Row<'static>] = &[
         ..PLAIN
     },
     // a process that waits for no time again and again: no order comes to an end
-    Row {
+    SearchRow {
         source: b"module t; initial begin while (1'b1) begin #0 ; end end endmodule",
         texts: &[],
         shown: 0,
@@ -154,7 +154,7 @@ const ROWS: &[Row<'static>] = &[
         ..PLAIN
     },
     // a clock that is cut by the most entries
-    Row {
+    SearchRow {
         source: b"module t; reg clk; initial clk=1'b0; always #5 clk=~clk; endmodule",
         until: 1000,
         entries: 10,
@@ -164,7 +164,7 @@ const ROWS: &[Row<'static>] = &[
         ..PLAIN
     },
     // one order, of 40,001 entries
-    Row {
+    SearchRow {
         source: b"module t; reg [15:0] n; initial begin n=16'd0; while (n<16'd20000) begin #1 n=n+16'd1; end $display(\"%0d\",n); end endmodule",
         until: 20_000,
         entries: 100_000,
@@ -173,7 +173,7 @@ const ROWS: &[Row<'static>] = &[
         ..PLAIN
     },
     // the most texts
-    Row {
+    SearchRow {
         bounds: Bounds {
             nodes: 10_000,
             shown: 1,
@@ -184,7 +184,7 @@ const ROWS: &[Row<'static>] = &[
         ..PLAIN
     },
     // the first node alone, behind which two orders differ
-    Row {
+    SearchRow {
         bounds: Bounds {
             nodes: 1,
             shown: 100,
@@ -195,7 +195,7 @@ const ROWS: &[Row<'static>] = &[
         ..PLAIN
     },
     // no room for what is kept of a node
-    Row {
+    SearchRow {
         bounds: Bounds {
             nodes: 10_000,
             shown: 100,
@@ -206,7 +206,7 @@ const ROWS: &[Row<'static>] = &[
         ..PLAIN
     },
     // fewer entries than a run has
-    Row {
+    SearchRow {
         entries: 3,
         shown: 0,
         stopped: "entries",
@@ -236,7 +236,7 @@ fn found_of(
     rt: &impl Abort,
     alloc: Global,
     design: &Design,
-    row: &Row<'_>,
+    row: &SearchRow<'_>,
 ) -> Explored<Entry, End> {
     holds(rt, row.until <= 281_474_976_710_656, "a time");
     holds(rt, row.entries > 0, "an entry");
@@ -261,7 +261,7 @@ fn reason_of(found: &Explored<Entry, End>) -> &'static str {
 }
 
 // So many texts are shown, which are of the row's, and there are others for the row's reason, or none.
-fn assert_found(rt: &impl Abort, found: &Explored<Entry, End>, row: &Row<'_>) {
+fn assert_found(rt: &impl Abort, found: &Explored<Entry, End>, row: &SearchRow<'_>) {
     assert_length(rt, found.shown.len(), row.shown);
     assert_texts(rt, &found.shown, row.texts);
     holds(rt, reason_of(found) == row.stopped, "another reason");
@@ -269,7 +269,7 @@ fn assert_found(rt: &impl Abort, found: &Explored<Entry, End>, row: &Row<'_>) {
 }
 
 // What a row says.
-fn assert_row(rt: &impl Abort, alloc: Global, row: &Row<'_>) {
+fn assert_row(rt: &impl Abort, alloc: Global, row: &SearchRow<'_>) {
     let design = design_of(rt, alloc, row.source);
     let found = found_of(rt, alloc, &design, row);
     assert_found(rt, &found, row);

@@ -23,7 +23,7 @@ use turn::{FillFault, Suspend, TurnChange, TurnLog, fill_turn};
 
 /// The first turn of the first process of a source, which ends with it.
 #[derive(Clone, Copy)]
-struct Row<'a> {
+struct TurnRow<'a> {
     source: &'a str,
     /// What each register has: a number of so many digits, or one digit that is unknown.
     held: Option<(u32, u64)>,
@@ -43,7 +43,7 @@ struct Row<'a> {
 }
 
 /// Where every register is unknown, nothing is read or written, and nothing is printed later.
-const PLAIN: Row<'static> = Row {
+const PLAIN: TurnRow<'static> = TurnRow {
     source: "",
     held: None,
     lines: "",
@@ -57,9 +57,9 @@ const PLAIN: Row<'static> = Row {
     turn_changes: &[],
 };
 
-const TURNS: &[Row<'static>] = &[
+const TURNS: &[TurnRow<'static>] = &[
     // strobes read and print nothing
-    Row {
+    TurnRow {
         source: "module t; reg a, b; initial begin $strobe(\"%b\", a); $display(\"%b\", b); if (b) begin $strobe(\"no\"); end $strobe(\"s\"); end endmodule",
         lines: "x\n",
         count: 4,
@@ -70,7 +70,7 @@ const TURNS: &[Row<'static>] = &[
         ..PLAIN
     },
     // what a loop adds
-    Row {
+    TurnRow {
         source: "module t; reg [7:0] i, s; initial begin i=8'd0; s=8'd0; while (i<8'd5) begin i=i+8'd1; s=s+i; end $display(\"%0d %0d\",i,s); end endmodule",
         lines: "5 15\n",
         count: 19,
@@ -79,7 +79,7 @@ const TURNS: &[Row<'static>] = &[
         ..PLAIN
     },
     // an assignment has the size of its context, and an argument its own
-    Row {
+    TurnRow {
         source: "module t; reg [4:0] s; initial begin s = 4'hf+4'h1; $display(\"%0d %0d\", s, 4'hf+4'h1); end endmodule",
         lines: "16 0\n",
         count: 2,
@@ -88,42 +88,42 @@ const TURNS: &[Row<'static>] = &[
         ..PLAIN
     },
     // literals, sums, shifts, concatenations and registers of up to 128 digits
-    Row {
+    TurnRow {
         source: "module t; initial $display(\"%0d\", 128'hffffffffffffffffffffffffffffffff); endmodule",
         lines: "340282366920938463463374607431768211455\n",
         count: 1,
         place: 1,
         ..PLAIN
     },
-    Row {
+    TurnRow {
         source: "module t; initial $display(\"%0d\", 128'hffffffffffffffffffffffffffffffff+128'h1); endmodule",
         lines: "0\n",
         count: 1,
         place: 1,
         ..PLAIN
     },
-    Row {
+    TurnRow {
         source: "module t; initial $display(\"%h\", 128'h1<<8'd127); endmodule",
         lines: "80000000000000000000000000000000\n",
         count: 1,
         place: 1,
         ..PLAIN
     },
-    Row {
+    TurnRow {
         source: "module t; initial $display(\"%h\", {64'hfedcba9876543210, 64'h1}); endmodule",
         lines: "fedcba98765432100000000000000001\n",
         count: 1,
         place: 1,
         ..PLAIN
     },
-    Row {
+    TurnRow {
         source: "module t; initial $display(\"%b\", 128'd170141183460469231731687303715884105728>>8'd126); endmodule",
         lines: "00000000000000000000000000000000000000000000000000000000000000000000000000000000000000000000000000000000000000000000000000000010\n",
         count: 1,
         place: 1,
         ..PLAIN
     },
-    Row {
+    TurnRow {
         source: "module t; reg [64:0] a; initial begin a = 64'hffffffffffffffff+64'h1; $display(\"%0d\",a); end endmodule",
         lines: "18446744073709551616\n",
         count: 2,
@@ -131,7 +131,7 @@ const TURNS: &[Row<'static>] = &[
         sizes: (1, 1),
         ..PLAIN
     },
-    Row {
+    TurnRow {
         source: "module t; reg [127:0] a; initial begin a = 128'bz; $display(\"%h %0d\",a,a[127]); end endmodule",
         lines: "zzzzzzzzzzzzzzzzzzzzzzzzzzzzzzzz z\n",
         count: 2,
@@ -140,7 +140,7 @@ const TURNS: &[Row<'static>] = &[
         ..PLAIN
     },
     // digits that are unknown are the same
-    Row {
+    TurnRow {
         source: DIFFER,
         count: 1,
         place: 1,
@@ -149,7 +149,7 @@ const TURNS: &[Row<'static>] = &[
         ..PLAIN
     },
     // a register is read once
-    Row {
+    TurnRow {
         source: "module t; reg [7:0] a, b, q; initial q = b + a + b; endmodule",
         held: Some((4, 3)),
         count: 1,
@@ -161,7 +161,7 @@ const TURNS: &[Row<'static>] = &[
         ..PLAIN
     },
     // a turn knows what it wrote
-    Row {
+    TurnRow {
         source: "module t; reg [3:0] a, b; initial begin b = 4'd5; $display(\"%0d\", b); end endmodule",
         held: Some((4, 3)),
         lines: "5\n",
@@ -170,7 +170,7 @@ const TURNS: &[Row<'static>] = &[
         sizes: (1, 1),
         ..PLAIN
     },
-    Row {
+    TurnRow {
         source: "module t; reg [3:0] a, b; initial begin b = 4'd5; $display(\"%0d %0d\", b, a); end endmodule",
         held: Some((4, 3)),
         lines: "5 3\n",
@@ -182,7 +182,7 @@ const TURNS: &[Row<'static>] = &[
         ..PLAIN
     },
     // turn changes of two registers, in the order of their first writes
-    Row {
+    TurnRow {
         source: "module t; reg [3:0] a, b; initial begin b = 4'd5; a = 4'd1; b = 4'd5; b = 4'd6; a = 4'd1; b = 4'd5; end endmodule",
         held: Some((4, 3)),
         count: 6,
@@ -192,7 +192,7 @@ const TURNS: &[Row<'static>] = &[
         ..PLAIN
     },
     // a line
-    Row {
+    TurnRow {
         source: "module t; reg [5:0] a; initial $display(\"a%b %h%0d\", a, a, a); endmodule",
         held: Some((6, 43)),
         lines: "a101011 2b43\n",
@@ -203,7 +203,7 @@ const TURNS: &[Row<'static>] = &[
         ..PLAIN
     },
     // a loop to its end
-    Row {
+    TurnRow {
         source: "module t; reg [3:0] r; initial while (r < 4'd5) begin r = r + 4'd1; end endmodule",
         held: Some((4, 3)),
         count: 5,
@@ -219,7 +219,7 @@ const TURNS: &[Row<'static>] = &[
 pub const DIFFER: &str = "module t; reg a, b; initial while (a!==b) begin end endmodule";
 
 // The value that each register of a row has.
-fn value(row: &Row<'_>) -> Bits {
+fn value(row: &TurnRow<'_>) -> Bits {
     match row.held {
         Some((width, number)) => Bits::from_u64(width.clamp(1, Bits::MAX_WIDTH), number),
         None => Bits::unknown(1),
@@ -227,7 +227,7 @@ fn value(row: &Row<'_>) -> Bits {
 }
 
 // A turn has these lines and counts.
-fn assert_counts(rt: &impl Abort, taken: &Taken, row: &Row<'_>) {
+fn assert_counts(rt: &impl Abort, taken: &Taken, row: &TurnRow<'_>) {
     let log = &taken.log;
     assert_text(rt, log.lines(), row.lines);
     assert_number(rt, u64::from(log.count()), u64::from(row.count));
@@ -277,7 +277,7 @@ fn assert_turn_change(rt: &impl Abort, turn_change: &TurnChange, wanted: &(RegId
 }
 
 // A turn has so many writes and turn changes, and these where they are told.
-fn assert_wrote(rt: &impl Abort, log: &TurnLog, row: &Row<'_>) {
+fn assert_wrote(rt: &impl Abort, log: &TurnLog, row: &TurnRow<'_>) {
     assert_length(rt, log.writes().len(), row.sizes.0);
     assert_length(rt, log.turn_changes().len(), row.sizes.1);
     assert_writes(rt, log, row.writes);
@@ -286,7 +286,7 @@ fn assert_wrote(rt: &impl Abort, log: &TurnLog, row: &Row<'_>) {
     }
 }
 
-fn assert_turn(rt: &impl Abort, taken: &Taken, row: &Row<'_>) {
+fn assert_turn(rt: &impl Abort, taken: &Taken, row: &TurnRow<'_>) {
     assert_counts(rt, taken, row);
     assert_reads(rt, &taken.log, row.reads);
     assert_wrote(rt, &taken.log, row);

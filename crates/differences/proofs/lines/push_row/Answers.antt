@@ -1,7 +1,8 @@
 -- The pieces of the line, one behind another.
 use Rattle.std.proofs.Common.{ℕ, List, ◌++◌, refl, codes, decimal}
 use Rattle.explain.proofs.Pieces.{joined}
-use Rattle.explain.specs.Phrases.{register_text, value_text}
+use Rattle.explain.specs.EntryLines.{styled_text}
+use Rattle.explain.specs.Phrases.{register_text}
 use Rattle.differences.proofs.Told.{last_put}
 use Rattle.differences.proofs.lines.push_row.Goals as goal
 
@@ -11,8 +12,8 @@ returns c =
     let gap : List ℕ = codes "  " in
     let a : List ℕ = codes "time " ++ decimal c.args.row.now.time in
     let r : List ℕ = register_text c.args.names.now c.args.row.now.register in
-    let v : List ℕ = value_text c.args.row.now.first in
-    let w : List ℕ = value_text c.args.row.now.second in
+    let v : List ℕ = styled_text c.args.names.now c.args.row.now.first in
+    let w : List ℕ = styled_text c.args.names.now c.args.row.now.second in
     let t1 : List ℕ = c.push_labelled.new.text.items in
     let t2 : List ℕ = c.extend_from_slice.new.self.items in
     let t3 : List ℕ = c.push_register.new.text.items in

@@ -5,5 +5,5 @@ use Rattle.explain.proofs.entry_text.push_next.Goals as goal
 
 pub returns-in-Ok-push_entry-clause-put : goal.returns-in-Ok-push_entry-clause-put
 returns-in-Ok-push_entry-clause-put c =
-    line_put c.args.names.now c.args.entries.now c.args.place _ c.args.explainer.now c.explain_next.new.explainer _ c.args.text.now.items c.push_entry.new.text.items c.requires.inside
-    c.requires.code c.in-Ok.ensures.told c.told.ensures c.in-Ok-push_entry.ensures
+    line_put c.args.names.now c.args.entries.now c.args.place _ c.args.explainer.now c.explain_next.new.explainer c.args.text.now.items c.push_entry.new.text.items c.requires.inside
+    c.requires.code c.in-Ok.ensures.told c.explain_next.ensures.code c.in-Ok-push_entry.ensures

@@ -2,11 +2,10 @@
 use Rattle.std.proofs.Common.{subst}
 use Rattle.std.specs.Prelude.{Option, IfSome}
 use Rattle.model.specs.declared.entry.Entry.{Entry}
-use Rattle.model.specs.declared.end.End.{End}
 use Rattle.explore.specs.declared.Shown.{Shown}
 use Rattle.lawful.specs.Journals.{IsShownLawfully}
 use Rattle.lawful.proofs.journals.add_journal.Goals as goal
 
 pub returns-in_ok-push-in-Some-clause-added : goal.returns-in_ok-push-in-Some-clause-added
-returns-in_ok-push-in-Some-clause-added c sure =
-    (c.in-Some.one, c.in_ok-push-in-Some.ensures.items, subst (λ (o : Option (Shown Entry End)). IfSome o (IsShownLawfully c.args.scope.design.now c.args.scope.limits c.args.shown)) c.in-Some.is c.in_ok-one.ensures)
+returns-in_ok-push-in-Some-clause-added g c sure =
+    (c.in-Some.one, c.in_ok-push-in-Some.ensures.items, subst (λ (o : Option (Shown Entry g.row.S-End.Denot)). IfSome o (IsShownLawfully (g.S.JournalSearch.is_journal c.args.kind.now c.args.scope.design.now c.args.scope.limits) c.args.shown)) c.in-Some.is c.in_ok-one.ensures)

@@ -1,13 +1,12 @@
 -- What was shown so far has its journals.
 use Rattle.std.proofs.Common.{◌≡◌, ◌++◌, List}
 use Rattle.std.specs.Vec.Iter.{into_iter_items}
-use Rattle.model.specs.declared.end.End.{End}
 use Rattle.explore.specs.declared.Shown.{Shown}
 use Rattle.loose.specs.declared.transition.LooseTransition.{LooseTransition}
 use Rattle.lawful.specs.Journals.{AreShownLawfully}
 use Rattle.lawful.proofs.journals.with_journals.Given as goal
 
 abbrev pub invariant-loop-loosely : goal.invariant-loop-loosely
-invariant-loop-loosely l =
-    (done : List (Shown LooseTransition End)) × (done ++ into_iter_items l.loosely-iterator ≡ l.fn.shown.items)
-    × AreShownLawfully l.scope.design.now l.scope.limits done l.lawful.items
+invariant-loop-loosely g l =
+    (done : List (Shown LooseTransition g.row.S-End.Denot)) × (done ++ into_iter_items l.loosely-iterator ≡ l.fn.shown.items)
+    × AreShownLawfully (g.S.JournalSearch.is_journal l.kind l.scope.design.now l.scope.limits) done l.lawful.items

@@ -1,5 +1,5 @@
 -- One way more.
-use Rattle.std.proofs.Common.{◌++◌, map, sym, ap, subst, ◌∙◌, take}
+use Rattle.std.proofs.Common.{◌++◌, map, sym, ap, subst, ◌∙◌}
 use Rattle.std.proofs.lemmas.List.{take_all}
 use Rattle.looseparts.specs.FoundWays.{ways_in}
 use Rattle.looseparts.specs.PartLaws.{HaveEachBehind}

@@ -4,7 +4,7 @@ use Rattle.std.proofs.lemmas.List.{take_all, take_more}
 use Rattle.loose.specs.declared.transition.LooseTransition.{LooseTransition}
 use Rattle.loose.specs.declared.transition.LooseTransition.TheVariants.{Process}
 use Rattle.loose.specs.Classes.{class_in}
-use Rattle.looseparts.specs.GoneWays.{IsGone}
+use Rattle.looseparts.specs.GoneWays.{IsWayGone}
 use Rattle.looseparts.proofs.GoneAgain.{gone_nowhere, gone_more}
 use Rattle.looseparts.proofs.repeats.go.Goals as goal
 
@@ -21,7 +21,7 @@ loop-actor-preserved c =
     let at = c.loop-actor.actor-index in
     let new = c.take_step.new.machine in
     record {
-      gone = subst (λ (l : List LooseTransition). IsGone class c.args.machine.now l new) (sym (take_more way at (Process 0) c.loop-actor-test.true))
+      gone = subst (λ (l : List LooseTransition). IsWayGone class c.args.machine.now l new) (sym (take_more way at (Process 0) c.loop-actor-test.true))
           (gone_more class c.args.machine.now c.loop-actor.machine new (take at way) (get_or way at (Process 0)) c.take_step.new.room.note c.loop-actor.invariant.code c.loop-actor.invariant.gone
           (c.in_ok-take_step.ensures.taken c.if-not-branch.false));
       code = c.take_step.ensures.code ∙ c.loop-actor.invariant.code;
@@ -29,4 +29,4 @@ loop-actor-preserved c =
 
 pub returns-clause-gone : goal.returns-clause-gone
 returns-clause-gone c = λ done.
-    subst (λ (l : List LooseTransition). IsGone (class_in c.args.classes.now) c.args.machine.now l c.loop-actor.machine) (take_all c.loop-actor.actor-index c.args.way.now c.loop-actor-test.false) c.loop-actor.invariant.gone
+    subst (λ (l : List LooseTransition). IsWayGone (class_in c.args.classes.now) c.args.machine.now l c.loop-actor.machine) (take_all c.loop-actor.actor-index c.args.way.now c.loop-actor-test.false) c.loop-actor.invariant.gone

@@ -6,7 +6,7 @@ use Rattle.std.specs.Global.{Vec}
 use Rattle.loose.specs.declared.transition.LooseTransition.{LooseTransition}
 use Rattle.loose.specs.Classes.{class_in}
 use Rattle.looseparts.specs.FoundWays.{ways_in}
-use Rattle.looseparts.specs.GoneWays.{AreKept, ComesTo}
+use Rattle.looseparts.specs.GoneWays.{AreWaysKept, ComesTo}
 use Rattle.looseparts.specs.declared.repeats.GoneWay.{GoneWay}
 use Rattle.looseparts.proofs.GoneAgain.{none_kept, kept_more}
 use Rattle.looseparts.proofs.repeats.kept_of.Goals as goal
@@ -14,7 +14,7 @@ use Rattle.looseparts.proofs.repeats.kept_of.Goals as goal
 pub loop-way-init : goal.loop-way-init
 loop-way-init c =
     let m = record c.args.machine.now { lines = [] } in
-    subst (λ l. AreKept (class_in c.args.classes.now) m c.args.over [] l) (sym c.new-kept.ensures.items) (none_kept (class_in c.args.classes.now) m c.args.over)
+    subst (λ l. AreWaysKept (class_in c.args.classes.now) m c.args.over [] l) (sym c.new-kept.ensures.items) (none_kept (class_in c.args.classes.now) m c.args.over)
 
 pub loop-way-preserved : goal.loop-way-preserved
 loop-way-preserved c =
@@ -29,4 +29,4 @@ loop-way-preserved c =
 
 pub returns : goal.returns
 returns c =
-    subst (λ (l : List (Vec LooseTransition)). AreKept (class_in c.args.classes.now) (record c.args.machine.now { lines = [] }) c.args.over (ways_in l) c.loop-way.kept.items) (take_all c.loop-way.way-index c.args.ways.now c.loop-way-test.false) c.loop-way.invariant
+    subst (λ (l : List (Vec LooseTransition)). AreWaysKept (class_in c.args.classes.now) (record c.args.machine.now { lines = [] }) c.args.over (ways_in l) c.loop-way.kept.items) (take_all c.loop-way.way-index c.args.ways.now c.loop-way-test.false) c.loop-way.invariant

@@ -7,7 +7,7 @@ use Rattle.loose.specs.declared.transition.LooseTransition.{LooseTransition}
 use Rattle.loose.specs.Classes.{class_in}
 use Rattle.looseparts.specs.StandTogether.{concern}
 use Rattle.looseparts.specs.FoundWays.{ways_in}
-use Rattle.looseparts.specs.GoneWays.{AreKept, ways_of}
+use Rattle.looseparts.specs.GoneWays.{AreWaysKept, ways_of}
 use Rattle.looseparts.specs.declared.repeats.GoneWay.{GoneWay}
 use Rattle.looseparts.proofs.GoneAgain.{as_well, as_well_same}
 use Rattle.looseparts.proofs.repeats.leave_out.Goals as goal
@@ -27,9 +27,9 @@ returns c =
     let m = c.args.machine.now in
     let old = c.args.ways.now.items in
     let kept = c.in-Some.kept.items in
-    let are : AreKept class (record m { lines = [] }) c.args.over (ways_in c.deref.result.now) kept =
-    subst (λ o. IfSome o (λ k. AreKept class (record m { lines = [] }) c.args.over (ways_in c.deref.result.now) k.items)) c.in-Some.is c.in_ok-kept.ensures in
+    let are : AreWaysKept class (record m { lines = [] }) c.args.over (ways_in c.deref.result.now) kept =
+    subst (λ o. IfSome o (λ k. AreWaysKept class (record m { lines = [] }) c.args.over (ways_in c.deref.result.now) k.items)) c.in-Some.is c.in_ok-kept.ensures in
     let concerned : All (λ gone. All (λ a. concern c.args.notes.now a ≡ true) gone.way.items) kept =
     subst (λ (l : List GoneWay). All (λ gone. All (λ a. concern c.args.notes.now a ≡ true) gone.way.items) l) c.deref-2.ensures.value (c.do_concern_ways.ensures c.if-not-do_concern_ways.false) in
     as_well class m c.args.notes.now c.args.over (ways_in old) (ways_in c.in_ok-ways.field-0.items) kept (c.in_ok-ways.ensures ∙ ap ways_of c.deref-3.ensures.value)
-    (subst (λ (l : List (Vec LooseTransition)). AreKept class (record m { lines = [] }) c.args.over (ways_in l) kept) c.deref.ensures.value are) concerned
+    (subst (λ (l : List (Vec LooseTransition)). AreWaysKept class (record m { lines = [] }) c.args.over (ways_in l) kept) c.deref.ensures.value are) concerned

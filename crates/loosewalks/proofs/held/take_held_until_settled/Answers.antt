@@ -18,7 +18,7 @@ members_settled_since-requires c =
 pub returns-then-branch-clause-done : goal.returns-then-branch-clause-done
 returns-then-branch-clause-done c = λ on limits may.
     let old = c.args.machine.now in
-    let through : HasHeld (class_in c.args.scope.classes.now) limits old c.args.scope.network.now c.args.held.now c.take_held.new.room.way.items c.take_held.new.machine =
+    let through : HasHeld (class_in c.args.scope.rules.classes.now) limits old c.args.scope.network.now c.args.held.now c.take_held.new.room.way.items c.take_held.new.machine =
     c.in_ok-take_held.ensures.done c.if-not-branch.false limits may in
     record {
       through = through;

@@ -16,7 +16,7 @@ settle_since-requires c =
 
 pub returns-clause-passed : goal.returns-clause-passed
 returns-clause-passed c =
-    let class = class_in c.args.scope.classes.now in
+    let class = class_in c.args.scope.rules.classes.now in
     let old = c.args.machine.now in
     let new = c.take_active.new.machine in
     let network = c.args.scope.network.now in

@@ -4,6 +4,7 @@ use Rattle.design.specs.Compiled.{Compiled, design_of}
 use Rattle.combinational.specs.Found.{IsNetworkOf}
 use Rattle.regions.specs.Machine.{state_at}
 use Rattle.loose.specs.Classes.{class_in}
+use Rattle.looseruns.specs.ObservedMoves.{PassesTimeFirst}
 use Rattle.loosewalks.specs.Sole.{IsLikeReached}
 use Rattle.loosewalks.specs.Checkpoints.{moves_of}
 use Rattle.loosewalks.proofs.Walks.{counts_begin, walk_begins}
@@ -14,16 +15,17 @@ pub loop-init : goal.loop-init
 loop-init c =
     let m = c.args.machine.now in
     let walk = c.new-walk.result in
-    let class = class_in c.args.classes.now in
+    let class = class_in c.args.rules.classes.now in
     record {
       code = record { here = refl; there = none_there walk.checkpoint _ c.new-walk.ensures.none };
       is = record {
         here = record {
-          walked = walk_begins class c.args.limits m (moves_of walk) c.new-walk.ensures.moves c.requires.silent c.requires.reached.order;
-          counted = counts_begin c.args.limits m (moves_of walk) c.new-walk.ensures.moves;
+          walked = walk_begins class c.args.rules.limits m (moves_of walk) c.new-walk.ensures.moves c.requires.silent c.requires.reached.order;
+          counted = counts_begin c.args.rules.limits m (moves_of walk) c.new-walk.ensures.moves;
         };
         there = none_there walk.checkpoint _ c.new-walk.ensures.none;
       };
+      time = λ at_time. subst PassesTimeFirst (sym c.new-walk.ensures.moves) tt;
     }
 
 pub go_on-requires : goal.go_on-requires
@@ -35,10 +37,11 @@ go_on-requires c =
 
 pub loop-preserved : goal.loop-preserved
 loop-preserved c =
-    let class = class_in c.args.classes.now in
+    let class = class_in c.args.rules.classes.now in
     let s = state_at c.args.machine.now in
     let like = subst (λ (k : Compiled). IsLikeReached class (design_of k) s) (sym c.loop.invariant.code.here) c.requires.reached in
     record {
       code = of_one_code _ c.loop.machine c.go_on.new.machine c.go_on.new.walk c.loop.invariant.code.here c.go_on.ensures.code;
       is = c.in_ok-go_on.ensures.on s c.args.machine.now.core.entries like c.loop.invariant.is;
+      time = λ at_time. c.in_ok-go_on.ensures.time at_time (c.loop.invariant.time at_time);
     }

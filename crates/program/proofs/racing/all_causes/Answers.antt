@@ -1,6 +1,6 @@
 -- Texts behind so many, or so many themselves.
 use Rattle.std.proofs.Common.{length}
-use Rattle.races.specs.Causes.{HasAnswer}
+use Rattle.causes.specs.Causes.{HasAnswer}
 use Rattle.program.proofs.Causing.{answered_all}
 use Rattle.program.proofs.racing.all_causes.Goals as goal
 

@@ -4,9 +4,9 @@ use Rattle.std.specs.Io.KnownBytes.{Appends}
 use Rattle.model.specs.declared.entry.Entry.{Entry}
 use Rattle.model.specs.declared.end.End.{End}
 use Rattle.explore.specs.declared.Shown.{Shown}
-use Rattle.races.specs.Causes.{HasAnswer}
-use Rattle.races.specs.declared.told.Cause.{Cause}
-use Rattle.races.specs.declared.told.RaceBounds.{RaceBounds}
+use Rattle.causes.specs.Causes.{HasAnswer}
+use Rattle.causes.specs.declared.parting_race.PartingRace.{PartingRace}
+use Rattle.conflicts.specs.declared.bounds.RaceBounds.{RaceBounds}
 use Rattle.naming.specs.Naming.{TellsRaces}
 use Rattle.program.proofs.racing.tell_races.Goals as goal
 
@@ -28,7 +28,7 @@ returns-clause-told g c =
         are_causes = c.first_causes-causes.ensures.are;
         answered = subst (λ (ss : List (Shown Entry End)). 1 < length ss → HasAnswer found causes) c.as_slice.ensures.value c.first_causes-causes.ensures.answered;
         texts = c.len-texts.ensures ∙ c.in_ok-known.known.ok.0;
-        tells = subst (λ (cs : List Cause). TellsRaces source design known prefix race_bounds found cs first) c.as_slice-3.ensures.value
+        tells = subst (λ (cs : List PartingRace). TellsRaces source design known prefix race_bounds found cs first) c.as_slice-3.ensures.value
             (subst (λ (ss : List (Shown Entry End)). TellsRaces source design ss prefix race_bounds found c.as_slice-3.result.now first) c.as_slice-2.ensures.value c.in_ok-lines.ensures);
       },
       subst (λ (l : List ℕ). Appends (g.O.Write.contents c.args.out.now) (g.O.Write.contents c.show_bytes.new.out) l) c.as_slice-4.ensures.value c.in_ok-show_bytes.ensures.written,

@@ -1,5 +1,5 @@
 -- The run went on.
-use Rattle.races.specs.RunEndings.{HasGoneOn}
+use Rattle.conflicts.specs.RunEndings.{HasGoneOn}
 use Rattle.races.proofs.follow.follow_segment.Given as goal
 
 abbrev pub invariant-loop : goal.invariant-loop

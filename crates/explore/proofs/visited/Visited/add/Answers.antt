@@ -2,36 +2,39 @@
 use Rattle.std.proofs.Common.{◌≡◌, ◌∷◌, ◌++◌, [], List, ℕ, map, ap, sym, subst, ◌∙◌, Some}
 use Rattle.std.specs.Prelude.{slice_get}
 use Rattle.sharing.specs.Parts.{chunk_table}
+use Rattle.sharing.specs.declared.parts.Shortened.{Shortened}
 use Rattle.explore.specs.Visited.{visit, visits}
 use Rattle.explore.specs.declared.visited.Visit.{Visit}
 use Rattle.explore.proofs.Visits.{AreHeld, AreHeld-extends, AreHeld-push, visits-extends, visits-push, visit_at, row_added, row_stayed, same_visit}
 use Rattle.explore.proofs.visited.Visited.add.Goals as goal
 
+-- the visit that is added
+abbrev row_of : ℕ → Shortened → Visit
+row_of text key = record { text = text; key = key }
+
 -- the rows, and one more
-pushed : (c : goal.Then-is_new) → c.insert_full.new.self.keys ≡ c.args.self.now.rows.keys ++ c.visit_of.result ∷ []
-pushed c = row_added _ c.in_ok-number.is_new c.args.self.now.rows.keys c.insert_full.new.self.keys c.visit_of.result c.in_ok-number.ensures.keys c.in_ok-number.ensures.added c.if-is_new.true
+pushed : (c : goal.Then-is_new) → c.insert_full.new.self.keys ≡ c.args.self.now.rows.keys ++ (row_of c.args.text c.in_ok-key.key) ∷ []
+pushed c = row_added _ c.in_ok-number.is_new c.args.self.now.rows.keys c.insert_full.new.self.keys (row_of c.args.text c.in_ok-key.key) c.in_ok-number.ensures.keys c.in_ok-number.ensures.added c.if-is_new.true
 
 -- the rows alone
 stayed : (c : goal.Else-is_new) → c.insert_full.new.self.keys ≡ c.args.self.now.rows.keys
-stayed c = row_stayed _ c.in_ok-number.is_new c.args.self.now.rows.keys c.insert_full.new.self.keys c.visit_of.result c.in_ok-number.ensures.keys c.in_ok-number.ensures.added c.if-is_new.false
+stayed c = row_stayed _ c.in_ok-number.is_new c.args.self.now.rows.keys c.insert_full.new.self.keys (row_of c.args.text c.in_ok-key.key) c.in_ok-number.ensures.keys c.in_ok-number.ensures.added c.if-is_new.false
 
 pub returns-then-is_new-clause-whole : goal.returns-then-is_new-clause-whole
 returns-then-is_new-clause-whole c =
-    let row : Visit = record { text = c.args.text; number = c.in_ok-key.key.number; levels = c.in_ok-key.key.levels } in
+    let row = row_of c.args.text c.in_ok-key.key in
     let rows = c.args.self.now.rows.keys in
-    let one = pushed c ∙ ap (λ (v : Visit). rows ++ v ∷ []) c.visit_of.ensures in
     record {
       are_parts = c.in_ok-key.ensures.whole;
-      held_keys = AreHeld-push (chunk_table c.shorten.new.self) rows c.insert_full.new.self.keys row one
+      held_keys = AreHeld-push (chunk_table c.shorten.new.self) rows c.insert_full.new.self.keys row (pushed c)
           (AreHeld-extends (chunk_table c.args.self.now.parts) (chunk_table c.shorten.new.self) rows c.in_ok-key.ensures.grows c.requires.whole.held_keys) c.in_ok-key.ensures.held;
     }
 
 pub returns-then-is_new-clause-added : goal.returns-then-is_new-clause-added
 returns-then-is_new-clause-added c _ =
-    let row : Visit = record { text = c.args.text; number = c.in_ok-key.key.number; levels = c.in_ok-key.key.levels } in
+    let row = row_of c.args.text c.in_ok-key.key in
     let rows = c.args.self.now.rows.keys in
-    let one = pushed c ∙ ap (λ (v : Visit). rows ++ v ∷ []) c.visit_of.ensures in
-    visits-push (chunk_table c.shorten.new.self) rows c.insert_full.new.self.keys row c.args.key.now one c.in_ok-key.ensures.told
+    visits-push (chunk_table c.shorten.new.self) rows c.insert_full.new.self.keys row c.args.key.now (pushed c) c.in_ok-key.ensures.told
     ∙ ap (λ (vs : List (ℕ × List ℕ)). vs ++ (c.args.text, c.args.key.now) ∷ []) (visits-extends (chunk_table c.args.self.now.parts) (chunk_table c.shorten.new.self) rows c.in_ok-key.ensures.grows c.requires.whole.held_keys)
 
 pub returns-clause-whole : goal.returns-clause-whole
@@ -44,11 +47,11 @@ returns-clause-whole c =
 
 pub returns-clause-there : goal.returns-clause-there
 returns-clause-there c =
-    let row : Visit = record { text = c.args.text; number = c.in_ok-key.key.number; levels = c.in_ok-key.key.levels } in
+    let row = row_of c.args.text c.in_ok-key.key in
     let new = chunk_table c.shorten.new.self in
     let same : map (visit new) c.insert_full.new.self.keys ≡ visits c.args.self.now =
     ap (λ (l : List Visit). map (visit new) l) (stayed c)
     ∙ visits-extends (chunk_table c.args.self.now.parts) new c.args.self.now.rows.keys c.in_ok-key.ensures.grows c.requires.whole.held_keys in
     let found = c.in_ok-number.ensures.stored in
-    let at : slice_get c.insert_full.new.self.keys c.in_ok-number.number ≡ Some row = found.1 ∙ ap (λ (v : Visit). Some v) (sym (same_visit c.visit_of.result found.0 found.2) ∙ c.visit_of.ensures) in
+    let at : slice_get c.insert_full.new.self.keys c.in_ok-number.number ≡ Some row = found.1 ∙ ap (λ (v : Visit). Some v) (sym (same_visit row found.0 found.2)) in
     (same, ap (λ (vs : List (ℕ × List ℕ)). slice_get vs c.in_ok-number.number) (sym same) ∙ visit_at new c.insert_full.new.self.keys c.in_ok-number.number row c.args.key.now at c.in_ok-key.ensures.told)

@@ -1,0 +1,2 @@
+-- Lemmas of races that part texts.
+pub mod Parted

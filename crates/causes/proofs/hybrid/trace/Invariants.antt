@@ -1,0 +1,6 @@
+-- The run went on.
+use Rattle.conflicts.specs.RunEndings.{HasGoneOn}
+use Rattle.causes.proofs.hybrid.trace.Given as goal
+
+abbrev pub invariant-loop-entry : goal.invariant-loop-entry
+invariant-loop-entry l = HasGoneOn l.fn.run l.run

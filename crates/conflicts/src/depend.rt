@@ -1,0 +1,188 @@
+//! Which steps of a segment come of an earlier one, and which a second run takes in its place.
+
+use crate::segment::{Access, Segment, SegmentStep};
+use crate::step_set::StepSet;
+use std::alloc::{AllocError, Global};
+
+/// What some steps did: which sites they accessed, which of these they changed, and whether they made assignments.
+#[derive(Drop)]
+struct StepMarks {
+    accessed: StepSet,
+    changed: StepSet,
+    assigned: bool,
+}
+
+/// How steps hang on an earlier one, and the later one behind them: which need it, themselves or by another one that does; and which depend
+/// on it, since they need it or conflict with it, themselves or by another one that does.
+#[derive(Drop)]
+struct Chain {
+    earlier: usize,
+    later: SegmentStep,
+    by_earlier: StepMarks,
+    by_depending: StepMarks,
+    needing: StepSet,
+    depending: StepSet,
+}
+
+/// The steps between two that a second run takes before them: all that don't depend on the earlier one, where none of those that do ties the
+/// two together, and else all that don't need it.
+#[derive(Drop)]
+pub struct PriorSteps {
+    pub steps: StepSet,
+    pub is_tied: bool,
+}
+
+impl StepMarks {
+    // What no steps did, with room for so many sites. Fails where memory is refused.
+    fn new(alloc: Global, sites: usize) -> Result<StepMarks, AllocError> {
+        Ok(StepMarks {
+            accessed: StepSet::new(alloc, sites)?,
+            changed: StepSet::new(alloc, sites)?,
+            assigned: false,
+        })
+    }
+
+    // Marks what a step did.
+    fn add(&mut self, step: SegmentStep, accesses: &[Access]) {
+        for access in accesses {
+            self.accessed.insert(access.site_number());
+            if access.changes {
+                self.changed.insert(access.site_number());
+            }
+        }
+        self.assigned = self.assigned | step.assigns;
+    }
+
+    // Whether a step conflicts with one of these: one of the two changes what the other accesses, or both make nonblocking
+    // assignments, whose order is that of their updates.
+    fn meets(&self, step: SegmentStep, accesses: &[Access]) -> bool {
+        for access in accesses {
+            let site = access.site_number();
+            if self.changed.contains(site) || (access.changes && self.accessed.contains(site)) {
+                return true;
+            }
+        }
+        self.assigned && step.assigns
+    }
+}
+
+impl Chain {
+    // How the steps between two hang on the earlier one. None where the later one needs it.
+    fn between(
+        alloc: Global,
+        segment: &Segment,
+        earlier: usize,
+        later: usize,
+    ) -> Result<Option<Chain>, AllocError> {
+        let Some(last) = segment.step_at(later) else {
+            return Ok(None);
+        };
+        let width = later.saturating_sub(earlier);
+        let mut chain = Chain {
+            earlier,
+            later: last,
+            by_earlier: StepMarks::new(alloc, segment.sites())?,
+            by_depending: StepMarks::new(alloc, segment.sites())?,
+            needing: StepSet::new(alloc, width)?,
+            depending: StepSet::new(alloc, width)?,
+        };
+        chain.needing.insert(0);
+        if let Some(step) = segment.step_at(earlier) {
+            chain.by_earlier.add(step, segment.accesses_of(earlier));
+        }
+        for at in earlier.saturating_add(1)..later {
+            if let Some(step) = segment.step_at(at) {
+                chain.pass(at, step, segment.accesses_of(at));
+            }
+        }
+        if chain.needs(last) {
+            Ok(None)
+        } else {
+            Ok(Some(chain))
+        }
+    }
+
+    // Whether a step that another one needs is in a set.
+    fn is_in(&self, set: &StepSet, step: Option<usize>) -> bool {
+        match step {
+            Some(step) if step >= self.earlier => set.contains(step - self.earlier),
+            _ => false,
+        }
+    }
+
+    // Whether a step needs the earlier one.
+    fn needs(&self, step: SegmentStep) -> bool {
+        self.is_in(&self.needing, step.cause) || self.is_in(&self.needing, step.before)
+    }
+
+    // Whether a step depends on one behind the earlier one that depends on that.
+    fn is_linked(&self, step: SegmentStep, accesses: &[Access]) -> bool {
+        self.is_in(&self.depending, step.cause)
+            || self.is_in(&self.depending, step.before)
+            || self.by_depending.meets(step, accesses)
+    }
+
+    // Goes past a step.
+    fn pass(&mut self, at: usize, step: SegmentStep, accesses: &[Access]) {
+        let behind = at.saturating_sub(self.earlier);
+        let needs = self.needs(step);
+        if needs {
+            self.needing.insert(behind);
+        }
+        if needs || self.is_linked(step, accesses) || self.by_earlier.meets(step, accesses) {
+            self.depending.insert(behind);
+            self.by_depending.add(step, accesses);
+        }
+    }
+}
+
+// The steps between two that aren't in a set.
+fn others(alloc: Global, set: &StepSet, width: usize) -> Result<StepSet, AllocError> {
+    let mut others = StepSet::new(alloc, width)?;
+    for behind in 1..width {
+        if !set.contains(behind) {
+            others.insert(behind);
+        }
+    }
+    Ok(others)
+}
+
+impl Segment {
+    /// The steps between two that a second run takes before them. None where the later one needs the earlier one.
+    pub(crate) fn swapped(
+        &self,
+        alloc: Global,
+        earlier: usize,
+        later: usize,
+    ) -> Result<Option<PriorSteps>, AllocError> {
+        let width = later.saturating_sub(earlier);
+        let Some(chain) = Chain::between(alloc, self, earlier, later)? else {
+            return Ok(None);
+        };
+        let is_tied = chain.is_linked(chain.later, self.accesses_of(later));
+        let steps = if is_tied {
+            others(alloc, &chain.needing, width)?
+        } else {
+            others(alloc, &chain.depending, width)?
+        };
+        Ok(Some(PriorSteps { steps, is_tied }))
+    }
+
+    /// The steps between two that a second run takes before the later one, which finishes it: all that don't need the earlier one. None where
+    /// the later one needs it.
+    pub(crate) fn cut_off(
+        &self,
+        alloc: Global,
+        earlier: usize,
+        later: usize,
+    ) -> Result<Option<PriorSteps>, AllocError> {
+        let Some(chain) = Chain::between(alloc, self, earlier, later)? else {
+            return Ok(None);
+        };
+        let steps = others(alloc, &chain.needing, later.saturating_sub(earlier))?;
+        Ok(Some(PriorSteps {
+            steps,
+            is_tied: false,
+        }))
+    }
+}

@@ -1,0 +1,4 @@
+pub mod Observers
+pub mod Observations
+pub mod AsciiFormats
+pub mod OneWave

@@ -1,6 +1,0 @@
--- The run went on.
-use Rattle.races.specs.RunEndings.{HasGoneOn}
-use Rattle.races.proofs.hybrid.trace.Given as goal
-
-abbrev pub invariant-loop-entry : goal.invariant-loop-entry
-invariant-loop-entry l = HasGoneOn l.fn.run l.run

@@ -1,0 +1,263 @@
+//! The lines on waves: what two runs have in common where more or less than their lines, in order, is compared.
+
+ghost use Rattle.std.specs.Prelude.{◌≡◌, ◌++◌, OnOk, codes, decimal, option_map, true};
+ghost use Rattle.verdict.specs.WaveLines.{at_times_text, one_wave, register_text, same_lines_text, same_text, several_lines, several_registers, side_text, sides_of, sides_text, these_registers, values_text, wave_claim_text, wave_count_text, wave_site_text, wave_text, wave_verdict_text};
+ghost use Rattle.verdict.specs.Verdicts.{many_every};
+
+use crate::claim::Claim;
+use crate::phrases::{push_grouped, push_number, push_states, push_up_to};
+use crate::race::{push_journal, push_quoted};
+use crate::verdict::{Verdict, push_endless, push_many, push_none, push_sampled, push_so_far};
+use std::alloc::AllocError;
+
+/// The waves that were found, and what they are among those of all lawful runs.
+#[derive(Clone, Copy, Debug)]
+pub struct WaveVerdict<'a> {
+    pub claim: Claim,
+    /// The last time of the runs, if there is one.
+    pub until: Option<u64>,
+    /// How many waves with their ends were found.
+    pub count: usize,
+    /// How many registers are observed.
+    pub registers: usize,
+    /// How many lines are printed in a run that has the first wave.
+    pub lines: usize,
+    /// The path that journals begin with, where they are saved.
+    pub prefix: Option<&'a str>,
+}
+
+/// In what a wave parts first from the first one: in a register when a time passes, in a line, in the time that passes, or in its end alone.
+#[derive(Clone, Copy, Debug)]
+pub enum WaveSite<'a> {
+    Register { name: &'a str, time: &'a [u8] },
+    Line,
+    Time,
+    End,
+}
+
+/// A wave that isn't the first one: its number, in what it parts first from that, and what stands there in each.
+#[derive(Clone, Copy, Debug)]
+pub struct WaveDescription<'a> {
+    pub number: usize,
+    pub prefix: Option<&'a str>,
+    pub site: WaveSite<'a>,
+    pub first: &'a [u8],
+    pub second: &'a [u8],
+}
+
+/// Puts the lines on a wave behind a text.
+pub fn push_wave(text: &mut Vec<u8>, wave: &WaveDescription<'_>) -> Result<(), AllocError>
+    ensures { OnOk result (text.new.items ≡ text.old.items ++ wave_text wave.entry.now) }
+{
+    text.extend_from_slice(b"wave ")?;
+    push_number(text, wave.number as u64)?;
+    push_wave_site(text, wave.site)?;
+    push_sides(text, wave)
+}
+
+/// Puts behind a text in what a wave parts first from the first one.
+fn push_wave_site(text: &mut Vec<u8>, site: WaveSite<'_>) -> Result<(), AllocError>
+    ensures { OnOk result (text.new.items ≡ text.old.items ++ wave_site_text site.entry) }
+{
+    match site {
+        WaveSite::Register { name, time } => push_register(text, name, time),
+        WaveSite::Line => text.extend_from_slice(b" parts from wave 1 in a line\n"),
+        WaveSite::Time => text.extend_from_slice(b" parts from wave 1 in the time that passes\n"),
+        WaveSite::End => text.extend_from_slice(
+            b" has the lines and the values of wave 1, and another end\n",
+        ),
+    }
+}
+
+/// Puts behind a text that a wave parts from the first one in a register when a time passes.
+fn push_register(text: &mut Vec<u8>, name: &str, time: &[u8]) -> Result<(), AllocError>
+    ensures { OnOk result (text.new.items ≡ text.old.items ++ register_text name.now time.now) }
+{
+    text.extend_from_slice(b" parts from wave 1 in register ")?;
+    text.extend_from_slice(name.as_bytes())?;
+    text.extend_from_slice(b" when time ")?;
+    text.extend_from_slice(time)?;
+    text.extend_from_slice(b" passes\n")
+}
+
+/// Puts what stands in both waves behind a text, unless they differ in their ends alone.
+fn push_sides(text: &mut Vec<u8>, wave: &WaveDescription<'_>) -> Result<(), AllocError>
+    ensures { OnOk result (text.new.items ≡ text.old.items ++ sides_of wave.entry.now.site wave.entry.now) }
+{
+    match wave.site {
+        WaveSite::End => Ok(()),
+        WaveSite::Register { .. } | WaveSite::Line | WaveSite::Time => push_both(text, wave),
+    }
+}
+
+/// Puts what stands in the first wave and in another one behind a text.
+fn push_both(text: &mut Vec<u8>, wave: &WaveDescription<'_>) -> Result<(), AllocError>
+    ensures { OnOk result (text.new.items ≡ text.old.items ++ sides_text wave.entry.now) }
+{
+    push_side(text, wave.prefix, 1, wave.first)?;
+    push_side(text, wave.prefix, wave.number, wave.second)
+}
+
+/// Puts what stands in a wave behind a text, and which journal has it, if that is saved.
+fn push_side(
+    text: &mut Vec<u8>,
+    prefix: Option<&str>,
+    number: usize,
+    line: &[u8],
+) -> Result<(), AllocError>
+    ensures { OnOk result (text.new.items ≡ text.old.items ++ side_text (option_map (λ path. path.now) prefix.entry) number line.now) }
+{
+    text.extend_from_slice(b"  in wave ")?;
+    push_number(text, number as u64)?;
+    push_journal(text, prefix, Some(number))?;
+    text.extend_from_slice(b" it")?;
+    push_quoted(text, line)
+}
+
+/// Puts what is said of waves behind a text.
+pub fn push_wave_verdict(text: &mut Vec<u8>, verdict: &WaveVerdict<'_>) -> Result<(), AllocError>
+    ensures { OnOk result (text.new.items ≡ text.old.items ++ wave_verdict_text verdict.entry.now.claim verdict.entry.now.until verdict.entry.now.count verdict.entry.now.registers verdict.entry.now.lines (option_map (λ path. path.now) verdict.entry.now.prefix)) }
+{
+    push_wave_count(text, verdict.count)?;
+    push_wave_claim(text, verdict)
+}
+
+/// How many waves there are.
+fn push_wave_count(text: &mut Vec<u8>, count: usize) -> Result<(), AllocError>
+    ensures { OnOk result (text.new.items ≡ text.old.items ++ wave_count_text count) }
+{
+    match count {
+        0 => text.extend_from_slice(b"no wave"),
+        1 => text.extend_from_slice(b"one wave"),
+        _ => push_waves(text, count),
+    }
+}
+
+/// How many waves there are, where there are several.
+fn push_waves(text: &mut Vec<u8>, count: usize) -> Result<(), AllocError>
+    ensures { OnOk result (text.new.items ≡ text.old.items ++ (decimal count ++ codes " waves")) }
+{
+    push_number(text, count as u64)?;
+    text.extend_from_slice(b" waves")
+}
+
+/// What the waves are among those of all lawful runs, behind their number.
+fn push_wave_claim(text: &mut Vec<u8>, verdict: &WaveVerdict<'_>) -> Result<(), AllocError>
+    ensures { OnOk result (text.new.items ≡ text.old.items ++ wave_claim_text verdict.entry.now.claim verdict.entry.now.until verdict.entry.now.count verdict.entry.now.registers verdict.entry.now.lines (option_map (λ path. path.now) verdict.entry.now.prefix)) }
+{
+    match verdict.claim {
+        Claim::Every { states, endless } => match verdict.count {
+            0 => push_none(text, verdict.until, endless, verdict.prefix),
+            1 => push_one_wave(text, verdict, states, endless),
+            _ => push_many_waves(text, verdict, endless),
+        },
+        Claim::SoFar(stop) => push_so_far(text, stop, verdict.count),
+        Claim::Sampled(orders) => push_sampled(text, orders),
+    }
+}
+
+/// That every lawful run that comes to an end has one of several waves.
+fn push_many_waves(
+    text: &mut Vec<u8>,
+    verdict: &WaveVerdict<'_>,
+    endless: Option<usize>,
+) -> Result<(), AllocError>
+    ensures { OnOk result (text.new.items ≡ text.old.items ++ many_every verdict.entry.now.until true endless (option_map (λ path. path.now) verdict.entry.now.prefix)) }
+{
+    let texts = Verdict {
+        claim: verdict.claim,
+        until: verdict.until,
+        count: verdict.count,
+        ends: true,
+        first: &[],
+        prefix: verdict.prefix,
+    };
+    push_many(text, &texts, endless)
+}
+
+/// That every lawful run that comes to an end has the same wave.
+fn push_one_wave(
+    text: &mut Vec<u8>,
+    verdict: &WaveVerdict<'_>,
+    states: u64,
+    endless: Option<usize>,
+) -> Result<(), AllocError>
+    ensures { OnOk result (text.new.items ≡ text.old.items ++ one_wave states verdict.entry.now.until verdict.entry.now.registers verdict.entry.now.lines endless (option_map (λ path. path.now) verdict.entry.now.prefix)) }
+{
+    text.extend_from_slice(b": in every lawful run")?;
+    push_up_to(text, verdict.until)?;
+    text.extend_from_slice(b" that comes to an end ")?;
+    push_same(text, verdict.registers, verdict.lines)?;
+    push_states(text, states)?;
+    push_endless(text, endless, verdict.prefix)
+}
+
+/// What is the same in every run: the values of so many registers and so many lines, or the lines alone.
+fn push_same(text: &mut Vec<u8>, registers: usize, lines: usize) -> Result<(), AllocError>
+    ensures { OnOk result (text.new.items ≡ text.old.items ++ same_text registers lines) }
+{
+    match registers {
+        0 => push_at_times(text, lines),
+        _ => push_values(text, registers, lines),
+    }
+}
+
+/// That so many registers have the same values, and so many lines are printed.
+fn push_values(text: &mut Vec<u8>, registers: usize, lines: usize) -> Result<(), AllocError>
+    ensures { OnOk result (text.new.items ≡ text.old.items ++ values_text registers lines) }
+{
+    push_these_registers(text, registers)?;
+    text.extend_from_slice(b" (and ")?;
+    push_same_lines(text, lines)?;
+    text.extend_from_slice(b")\n")
+}
+
+/// That so many registers have the same values.
+fn push_these_registers(text: &mut Vec<u8>, registers: usize) -> Result<(), AllocError>
+    ensures { OnOk result (text.new.items ≡ text.old.items ++ these_registers registers) }
+{
+    match registers {
+        1 => text.extend_from_slice(b"this register has the same values"),
+        _ => push_several_registers(text, registers),
+    }
+}
+
+/// That so many registers, which are several, have the same values.
+fn push_several_registers(text: &mut Vec<u8>, registers: usize) -> Result<(), AllocError>
+    ensures { OnOk result (text.new.items ≡ text.old.items ++ several_registers registers) }
+{
+    text.extend_from_slice(b"these ")?;
+    push_grouped(text, registers as u64)?;
+    text.extend_from_slice(b" registers have the same values")
+}
+
+/// That the same lines, so many, are printed.
+fn push_same_lines(text: &mut Vec<u8>, lines: usize) -> Result<(), AllocError>
+    ensures { OnOk result (text.new.items ≡ text.old.items ++ same_lines_text lines) }
+{
+    match lines {
+        0 => text.extend_from_slice(b"no line is printed"),
+        1 => text.extend_from_slice(b"the same line is printed"),
+        _ => push_several_lines(text, lines),
+    }
+}
+
+/// That the same lines, so many, which are several, are printed.
+fn push_several_lines(text: &mut Vec<u8>, lines: usize) -> Result<(), AllocError>
+    ensures { OnOk result (text.new.items ≡ text.old.items ++ several_lines lines) }
+{
+    text.extend_from_slice(b"the same ")?;
+    push_grouped(text, lines as u64)?;
+    text.extend_from_slice(b" lines are printed")
+}
+
+/// That the same lines, so many, are printed at the same times.
+fn push_at_times(text: &mut Vec<u8>, lines: usize) -> Result<(), AllocError>
+    ensures { OnOk result (text.new.items ≡ text.old.items ++ at_times_text lines) }
+{
+    push_same_lines(text, lines)?;
+    match lines {
+        0 => text.extend_from_slice(b"\n"),
+        _ => text.extend_from_slice(b" at the same times\n"),
+    }
+}

@@ -1,0 +1,6 @@
+pub mod AtTimes
+pub mod Arrangings
+pub mod Waves
+pub mod Partings
+pub mod ToldWaves
+pub mod Names

@@ -1,0 +1,23 @@
+-- Waves: what runs have in common, besides their end, where the order of lines at one time doesn't count.
+use Rattle.std.specs.Prelude.{◌≡◌, ℕ, List, [], ◌∷◌, ◌++◌}
+use Rattle.model.specs.declared.entry.Entry.{Entry}
+use Rattle.model.specs.declared.end.End.{End}
+use Rattle.explore.specs.declared.Shown.{Shown}
+use Rattle.looseruns.specs.ObservedJournals.{SeenEnd}
+use Rattle.wavetexts.specs.AtTimes.{at_times}
+
+-- the wave of an observed text of so many registers and an observed end: both, with the lines of each time in order
+abbrev pub wave_text_of : ℕ → List ℕ → SeenEnd → List ℕ
+wave_text_of registers text end = at_times registers (text ++ end.seen)
+
+-- this is the wave of an observed text, with its end and its journal
+abbrev pub IsWaveOf : ℕ → Shown Entry SeenEnd → Shown Entry End → Type 0
+IsWaveOf registers s w =
+    (w.text.items ≡ wave_text_of registers s.text.items s.end) × (w.end ≡ s.end.end) × (w.moves.items ≡ s.moves.items)
+
+-- these are the waves of observed texts, one by one
+abbrev pub AreWavesOf : ℕ → List (Shown Entry SeenEnd) → List (Shown Entry End) → Type 0
+AreWavesOf registers [] [] = Unit {0}
+AreWavesOf registers [] (w ∷ ws) = ⊥
+AreWavesOf registers (s ∷ ss) [] = ⊥
+AreWavesOf registers (s ∷ ss) (w ∷ ws) = IsWaveOf registers s w × AreWavesOf registers ss ws
