@@ -10,7 +10,7 @@ import re
 from hostility.answers import Answer, called, shown
 from ordering.model import Design, Fault, journal_of, journal_text, replayed, start, step
 from ordering.parser import parsed
-from ordering.search import key_of, merging, search
+from ordering.search import key_of, merging, search, wave_of, waves
 
 # So many journals of a design are replayed, and so many seeds tried.
 MOST_REPLAYS = 16
@@ -168,7 +168,7 @@ def verdict_fault(out, found, until):
 
 def endless_of(program, design, out, until, room):
     """The journal that leads to where no end is reached, if one is told of; no end is reached from there."""
-    told = re.search(rb"^(?:some lawful runs don't come|no text: no lawful run up to time \d+ comes) to an end \((\S+)\)$", out, re.MULTILINE)
+    told = re.search(rb"^(?:some lawful runs don't come|no (?:text|wave): no lawful run up to time \d+ comes) to an end \((\S+)\)$", out, re.MULTILINE)
     if not told:
         if b"some lawful runs don't" in out:
             raise Difference(f"races: it tells of runs without an end in other words: {out!r}")
@@ -215,4 +215,51 @@ def ask_races(program, design, found, until, room, random):
         raise Difference(f"races: {shown(answer)}: {fault}, and there are {len(found)} texts and ends")
 
 
-ASKED = {"races": ask_races, "replays": ask_replays, "runs": ask_runs, "seeds": ask_seeds}
+def wave_count(out, until):
+    """How many waves the verdict tells of every lawful run, or None where it says something else."""
+    told = re.search(rb"^(no|one) wave: (?:in every|no) lawful run up to time (\d+) (?:that )?comes to an end", out, re.MULTILINE)
+    told = told or re.search(rb"^(\d+) waves: every lawful run up to time (\d+) that comes to an end has one of them$", out, re.MULTILINE)
+    if not told or int(told[2]) != until:
+        return None
+    return {b"no": 0, b"one": 1}.get(told[1]) if not told[1].isdigit() else int(told[1])
+
+
+def ask_observed(program, design, words, until, room, registers):
+    """The waves of `races --observe` are those of the lawful journals, where these registers are observed. False where these are too many."""
+    searched = waves(design, until, registers)
+    if searched is None:
+        return False
+    found, endless = searched
+    what = f"races --observe {words}"
+    for path in glob.glob(f"{room}/wave.*"):
+        os.remove(path)
+    answer = called(program, "races", f"{room}/source.v", "--until", str(until), "--max-texts", "1000000", "--observe", words, "--journals", f"{room}/wave")
+    own_endless = endless_of(program, design, answer.out, until, room)
+    if bool(own_endless) != endless:
+        raise Difference(f"{what}: {shown(answer)}: {'some' if endless else 'no'} states come to no end")
+    paths = [it for it in glob.glob(f"{room}/wave.*.journal") if os.path.getsize(it) and it != own_endless]
+    pairs = set()
+    for path in paths:
+        _, ends = taken(design, path, until, f"{what}, {os.path.basename(path)}")
+        own = {(wave_of(design, journal_of(read(path)), registers), end) for end in ends} & found
+        if not own:
+            raise Difference(f"{what}, {os.path.basename(path)}: it has a wave and ends {ends} that no lawful journal that was made has")
+        pairs |= own
+    if pairs != found or len(paths) != len(found):
+        raise Difference(f"{what}: {shown(answer)}: {len(pairs)} waves and ends of {len(found)}, in {len(paths)} journals")
+    if answer.err or answer.status != {0: 4, 1: 4 if endless else 0}.get(len(found), 7) or wave_count(answer.out, until) != len(found):
+        raise Difference(f"{what}: {shown(answer)}, and there are {len(found)} waves and ends")
+    return True
+
+
+def ask_waves(program, design, found, until, room, random):
+    """Each way to observe runs has the waves of the lawful journals: no registers, all of them, and some."""
+    names = list(design.numbers)
+    some = random.sample(names, random.randint(1, len(names))) if names else []
+    asked = {"lines-at-times": [], "registers": list(range(len(names)))}
+    if some:
+        asked["registers=" + ",".join(some)] = [design.numbers[it] for it in some]
+    return all(ask_observed(program, design, words, until, room, registers) for words, registers in asked.items())
+
+
+ASKED = {"waves": ask_waves, "races": ask_races, "replays": ask_replays, "runs": ask_runs, "seeds": ask_seeds}

@@ -13,6 +13,8 @@ from ordering.tree import Module, Process, module_text
 ROLE = r"  process (\d+), (?:initial|always) at line \d+, ([a-z ]+)\n"
 ORDER = r"  the {} before the {}(?: \((\S+)\))?: .*\n"
 RACE = re.compile(r"race \d+: (.*), time (\d+)\n" + ROLE + ROLE + ORDER.format("first", "second") + ORDER.format("second", "first"))
+PRINTERS = re.compile(r"^at time \d+ the lines of processes (.*) come in another order in another run(?: \(\S+\))?$", re.MULTILINE)
+PRINTER = re.compile(r"(\d+) \(line \d+\)")
 LINE = re.compile(r"\d+  time (\d+)  (?:\S+  )?(.*)")
 TURN = re.compile(r"turn of process (\d+), ")
 # A journal takes so many entries at most, so that designs without an end are asked too.
@@ -35,6 +37,15 @@ def races_of(out):
     if len(races) != len(re.findall(r"^race \d+: ", text, re.MULTILINE)):
         raise Difference(f"races: lines on a race that aren't known: {text!r}")
     return races
+
+
+def printers_of(out):
+    """The processes whose lines come in another order in another run, as a report tells them; each such line has to be known."""
+    text = out.decode()
+    told = PRINTERS.findall(text)
+    if len(told) != len(re.findall(r"^at time ", text, re.MULTILINE)):
+        raise Difference(f"races: a line on the order of lines that isn't known: {text!r}")
+    return {int(number) for it in told for number in PRINTER.findall(it)}
 
 
 def stretches(program, source, journal):
@@ -128,4 +139,6 @@ def ask_names(program, module, until, room, random):
     for race in races:
         if number in (race.first[0], race.second[0]):
             raise Difference(f"races: process {number}, which does nothing, is named: {race.site}, time {race.time}")
+    if number in printers_of(answer.out):
+        raise Difference(f"races: process {number}, which does nothing, is named for the order of lines")
     return len(races), check_orders(program, source, races)

@@ -82,3 +82,48 @@ def brute(design, until, most_steps=15000, most_entries=400):
 def merging(design, until, most_steps=60000, most_entries=1000):
     """The same with equal states taken once."""
     return search(design, until, most_steps, most_entries, key_of)
+
+
+def waves(design, until, registers, most_steps=60000, most_entries=1000):
+    """Each wave of a lawful journal in time, with its end, where these registers are observed; and whether a state was kept from which no end is reached. Equal
+    states with one wave are taken once. None where there are more steps than these, or a journal has more entries.
+
+    A wave has a tuple for each advance: the time that passes, the lines that were printed since the last one in the order of their bytes, and the values of
+    the registers. Behind these it has the lines since the last advance, and the time and the values at the end, but for `$finish`."""
+    first, none = start(design), ()
+    found, steps, seen = set(), 0, {(key_of(start(design)), none, none)}
+    ended, before = set(), {key_of(first): set()}
+    waiting = [(first, none, none, 0)]
+    while waiting:
+        s, passed, lines, length = waiting.pop()
+        values = tuple(s.store[it] for it in registers)
+        for end in ends(design, s, until):
+            found.add(((passed, lines, None if s.finished else (s.time, values)), end))
+            ended.add(key_of(s))
+        for entry in entries(design, s, until):
+            steps += 1
+            if steps > most_steps or length == most_entries:
+                return None
+            after, more = step(design, s, entry)
+            told = tuple(more.splitlines(keepends=True))
+            if entry[0] == "A":
+                key = (key_of(after), (*passed, (s.time, lines, values)), tuple(sorted(told)))
+            else:
+                key = (key_of(after), passed, tuple(sorted(lines + told)))
+            before.setdefault(key[0], set()).add(key_of(s))
+            if key not in seen:
+                seen.add(key)
+                waiting.append((after, *key[1:], length + 1))
+    return found, has_endless(ended, before)
+
+
+def wave_of(design, journal, registers):
+    """The wave of a journal, and the state that it leads to."""
+    s, passed, lines = start(design), (), ()
+    for entry in journal:
+        values = tuple(s.store[it] for it in registers)
+        if entry[0] == "A":
+            passed, lines = (*passed, (s.time, lines, values)), ()
+        s, more = step(design, s, entry)
+        lines = tuple(sorted(lines + tuple(more.splitlines(keepends=True))))
+    return (passed, lines, None if s.finished else (s.time, tuple(s.store[it] for it in registers)))

@@ -5,7 +5,7 @@ ghost use Rattle.design.specs.Compiled.{design_of};
 ghost use Rattle.accesses.specs.Roles.{HasBothOrders};
 ghost use Rattle.accesses.specs.ExchangedEntries.{IsSeenPair, SeesExchanged, SeesHeld};
 
-use crate::observer::Observer;
+use crate::follower::Follower;
 use crate::pair::Pair;
 use crate::role::Asked;
 use crate::split::{Exchanged, Split, cut_of, held_of, split_of, swapped_of};
@@ -33,8 +33,8 @@ impl<'a> ExchangeClaim<'a> {
             Some(split) => split,
             None => return Ok(None),
         };
-        let mut observer = Observer::start(self.alloc, self.design)?;
-        if observer.sees(split, self.pair) {
+        let mut follower = Follower::start(self.alloc, self.design)?;
+        if follower.sees(split, self.pair) {
             Ok(Some(split))
         } else {
             Ok(None)
@@ -50,8 +50,8 @@ impl<'a> ExchangeClaim<'a> {
     ) -> Result<bool, AllocError>
         ensures { IfOk result (λ sees. IsTrue sees → SeesExchanged asked (design_of self.entry.design.now) split.entry.before.now exchanged.entry.needed.now exchanged.entry.other split.entry.one self.entry.pair) }
     {
-        let mut observer = Observer::start(self.alloc, self.design)?;
-        Ok(observer.sees_exchanged(split, exchanged, self.pair, asked))
+        let mut follower = Follower::start(self.alloc, self.design)?;
+        Ok(follower.sees_exchanged(split, exchanged, self.pair, asked))
     }
 
     /// Whether the two entries do what the pair says of them, and come the other way round in the second journal. In the first each is
@@ -92,8 +92,8 @@ impl<'a> ExchangeClaim<'a> {
     fn sees_held(self, held: Split<'_>) -> Result<bool, AllocError>
         ensures { IfOk result (λ sees. IsTrue sees → SeesHeld (design_of self.entry.design.now) held.entry.before.now held.entry.segment.now held.entry.one held.entry.other self.entry.pair) }
     {
-        let mut observer = Observer::start(self.alloc, self.design)?;
-        Ok(observer.sees_held(held, self.pair))
+        let mut follower = Follower::start(self.alloc, self.design)?;
+        Ok(follower.sees_held(held, self.pair))
     }
 
     /// Whether the last entry of the first journal, which is the pair's earlier one, finishes that run, and comes later in the second

@@ -11,11 +11,14 @@ use Rattle.clap.specs.Built.{IsPlainArg, IsParsedFrom, IsAuto, AddsArg, SameRule
 use Rattle.clap.specs.Matches.{matched_of, first_value, found_of}
 use Rattle.clap.specs.Values.{Accepts, reading_of}
 use Rattle.clap.proofs.CallerLemmas.{entry_by_id, same_rules_by_id, required_has_value, added_plain}
+use Rattle.clap.specs.Words.{kind_of}
 use Rattle.clap.specs.declared.builder.action.ArgAction.TheVariants.{Set}
 use Rattle.clap.specs.declared.builder.arg.Arg.{Arg}
 use Rattle.clap.specs.declared.builder.command.Command.{Command}
 use Rattle.clap.specs.declared.builder.command.Command.TheViews.{out-Command}
 use Rattle.clap.specs.declared.builder.value_parser.ValueParser.{ValueParser}
+use Rattle.clap.specs.declared.error.Error.{Error}
+use Rattle.clap.specs.declared.error.kind.ErrorKind.{ErrorKind}
 use Rattle.clap.specs.declared.parser.matches.ArgMatches.{ArgMatches}
 use Rattle.clap.specs.declared.parser.matches.Found.{Found}
 use Rattle.clap.specs.declared.parser.matches.MatchedArg.{MatchedArg}
@@ -30,6 +33,10 @@ if_ok P Q (Err e) f h = tt
 pub if_err : {T E : Type 0} (P Q : E → Type 0) (r : Result T E) → ((x : E) → P x → Q x) → IfErr r P → IfErr r Q
 if_err P Q (Ok x) f h = tt
 if_err P Q (Err e) f h = f e h
+
+-- an error that was made has the kind with which it was
+pub made_so : {E : Type 0} (r : Result Error E) (e : Error) (kind : ErrorKind) → r ≡ Ok e → IfOk r (λ x. kind_of x ≡ kind) → kind_of e ≡ kind
+made_so {E} r e kind is h = subst (λ (o : Result Error E). IfOk o (λ x. kind_of x ≡ kind)) is h
 
 -- building a command
 

@@ -1,5 +1,6 @@
 -- Lemmas of words and options.
 pub mod GivenLemmas
 pub mod WordLemmas
+pub mod ObservedWords
 pub mod SecondWord
 pub mod TaskLemmas

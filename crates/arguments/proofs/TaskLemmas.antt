@@ -1,5 +1,5 @@
 -- The commands of the tasks, one for all: how they are built, what is found in their words, and what that says of the words.
-use Rattle.std.proofs.Common.{◌≡◌, ◌∙◌, ◌+◌, ◌++◌, ap, ap₂, refl, sym, subst, ℕ, List, [], ◌∷◌, map, drop, take, true, false, codes, Some, None}
+use Rattle.std.proofs.Common.{◌≡◌, ◌∙◌, ◌+◌, ◌++◌, ap, ap₂, refl, sym, subst, ℕ, List, [], ◌∷◌, map, drop, take, true, false, codes, Some, None, inl, inr}
 use Rattle.std.proofs.lemmas.List.{map-append}
 use Rattle.clap.specs.Built.{IsParsedFrom, AddsArg, AddsSubcommand}
 use Rattle.clap.specs.Words.{App, HasKind, Row, Text, app_of, found_of, is_simple, is_simple_and_free, kind_of, new_app, rule_of, with_rule, with_subcommand}
@@ -13,9 +13,9 @@ use Rattle.arguments.specs.declared.request.Request.TheVariants as request
 use Rattle.arguments.specs.declared.command_task.CommandTask.{CommandTask}
 use Rattle.arguments.specs.declared.command_task.CommandTask.TheVariants as task
 use Rattle.arguments.specs.Arguments.{FollowsRule, Gives, HasRules, flag_parser, flag_rule, parameters_of, rule, rule_for, rules_of, workers_parser, until_parser, entries_parser, seed_parser}
-use Rattle.arguments.specs.CommandWords.{Asks, AsksTwoOrders, Begins, FailsAs, IsAskedBy, IsRunOf, IsReplayOf, IsRacesOf, IsCheckOf, IsExplainOf, IsWavesOf, IsDiffOf, app_by, argument_of, bare_app, every_task, faults_by, rows_by, with_arguments, with_tasks, word_of_task, run_app, replay_app, races_app, check_app, explain_app, waves_app, diff_app, whole_app, run_rows, replay_rows, races_rows, check_rows, explain_rows, waves_rows, diff_rows, run_faults, replay_faults, races_faults, check_faults, explain_faults, waves_faults, diff_faults}
+use Rattle.arguments.specs.CommandWords.{Asks, AsksInVain, Begins, FailsAs, IsAskedBy, IsRunOf, IsReplayOf, IsRacesOf, IsCheckOf, IsExplainOf, IsWavesOf, IsDiffOf, app_by, argument_of, bare_app, every_task, faults_by, rows_by, with_arguments, with_tasks, word_of_task, run_app, replay_app, races_app, check_app, explain_app, waves_app, diff_app, whole_app, run_rows, replay_rows, races_rows, check_rows, explain_rows, waves_rows, diff_rows, run_faults, replay_faults, races_faults, check_faults, explain_faults, waves_faults, diff_faults}
 use Rattle.arguments.proofs.GivenLemmas.{given, one_more, required_text}
-use Rattle.arguments.proofs.WordLemmas.{run_fails, replay_fails, races_fails, check_fails, explain_fails, waves_fails, diff_fails, two_orders_fail}
+use Rattle.arguments.proofs.WordLemmas.{run_fails, replay_fails, races_fails, check_fails, explain_fails, waves_fails, diff_fails, no_radix_fails, nothing_observed_fails, samples_fail, two_orders_fail}
 
 -- how a command is built
 
@@ -94,6 +94,7 @@ task_gives task.Explain cmd m p h = record {
   journal = required_text cmd m (rules_of task.Explain) 1 (rule (codes "JOURNAL") true None) p h refl refl refl refl refl;
   from = given cmd m (rules_of task.Explain) 2 (rule (codes "from") false (Some entries_parser)) entries_parser p h refl refl refl refl;
   to = given cmd m (rules_of task.Explain) 3 (rule (codes "to") false (Some entries_parser)) entries_parser p h refl refl refl refl;
+  versions = given cmd m (rules_of task.Explain) 5 (flag_rule (codes "versions")) flag_parser p h refl refl refl refl;
 }
 task_gives task.Waves cmd m p h = record {
   file = required_text cmd m (rules_of task.Waves) 0 (rule (codes "FILE") true None) p h refl refl refl refl refl;
@@ -152,12 +153,21 @@ task_asks asked words own rows (request.Diff diff) begins same found (e, is) = r
 }
 task_asks asked words own rows request.Version begins same found h = absurd h
 
-pub task_two_orders : (asked : CommandTask) (words own : List Text) (rows : List Row) (e : Error) → Begins words (word_of_task asked) → own ≡ drop 1 words → rows ≡ rows_by asked own
-    → AsksTwoOrders asked rows (kind_of e) → FailsAs words (kind_of e)
-unfolding run_rows
-task_two_orders asked words own rows e begins same found (is_run, two, kind) =
+pub task_in_vain : (asked : CommandTask) (words own : List Text) (rows : List Row) (e : Error) → Begins words (word_of_task asked) → own ≡ drop 1 words → rows ≡ rows_by asked own
+    → AsksInVain asked rows (kind_of e) → FailsAs words (kind_of e)
+unfolding run_rows races_rows explain_rows
+task_in_vain asked words own rows e begins same found (inl (is_run, two, kind)) =
     two_orders_fail words own rows e (subst (λ (t : CommandTask). Begins words (word_of_task t)) is_run begins) same
     (found ∙ ap (λ (t : CommandTask). rows_by t own) is_run) two kind
+task_in_vain asked words own rows e begins same found (inr (inl (is_races, nothing, kind))) =
+    nothing_observed_fails words own rows e (subst (λ (t : CommandTask). Begins words (word_of_task t)) is_races begins) same
+    (found ∙ ap (λ (t : CommandTask). rows_by t own) is_races) nothing kind
+task_in_vain asked words own rows e begins same found (inr (inr (inr (is_explain, none, kind)))) =
+    no_radix_fails words own rows e (subst (λ (t : CommandTask). Begins words (word_of_task t)) is_explain begins) same
+    (found ∙ ap (λ (t : CommandTask). rows_by t own) is_explain) none kind
+task_in_vain asked words own rows e begins same found (inr (inr (inl (is_races, some, other, kind)))) =
+    samples_fail words own rows e (subst (λ (t : CommandTask). Begins words (word_of_task t)) is_races begins) same
+    (found ∙ ap (λ (t : CommandTask). rows_by t own) is_races) some other kind
 
 -- one word or option more
 pub argument_more : (asked : CommandTask) (taken : List Parameter) (i : ℕ) (p : Parameter) (c d : Command) (a : Arg)

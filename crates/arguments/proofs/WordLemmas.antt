@@ -3,7 +3,8 @@ use Rattle.std.proofs.Common.{◌≡◌, ◌⊎◌, ◌||◌, ◌^◌, ◌<◌, 
 use Rattle.std.specs.Str.{bytes_eq}
 use Rattle.std.proofs.lemmas.Slice.Eq.{bytes_eq-Decides}
 use Rattle.std.specs.Str.Parse.{IsNumeral, ParsesUnsigned, digits_value, without_leading_plus}
-use Rattle.clap.specs.Words.{App, Row, FailsBy, HasKind, HasMatchesOf, IsAmong, Kinds, ReadsOne, Text, one_text, without_minus, fault_of, found_of, is_simple, is_simple_and_free, matches_of, rows_of, kind_of}
+use Rattle.clap.specs.Words.{App, Row, FailsBy, HasKind, HasMatchesOf, IsAmong, Kinds, ReadsOne, Text, one_text, without_minus, fault_of, found_of, is_simple, is_simple_and_free, matches_of, rows_of, kind_of, first_of}
+use Rattle.arguments.specs.Observing.{ObservesNothing, ObservesOther}
 use Rattle.clap.specs.Kinds.{or_else}
 use Rattle.clap.proofs.CallerReads.{signed_reads}
 use Rattle.clap.proofs.WalkLemmas.{one_text-rows}
@@ -11,12 +12,12 @@ use Rattle.clap.specs.declared.parser.matches.Found.{Found}
 use Rattle.clap.specs.declared.builder.value_parser.ValueParser.TheVariants as vp
 use Rattle.clap.specs.declared.error.Error.{Error}
 use Rattle.clap.specs.declared.error.kind.ErrorKind.{ErrorKind}
-use Rattle.clap.specs.declared.error.kind.ErrorKind.TheVariants.{ArgumentConflict, MissingSubcommand, OutOfMemory, DisplayHelp, DisplayVersion}
+use Rattle.clap.specs.declared.error.kind.ErrorKind.TheVariants.{ArgumentConflict, InvalidValue, MissingSubcommand, OutOfMemory, DisplayHelp, DisplayVersion}
 use Rattle.clap.specs.declared.parser.matches.ArgMatches.{ArgMatches}
 use Rattle.arguments.specs.declared.request.NoRequest.{NoRequest}
 use Rattle.arguments.specs.declared.request.NoRequest.TheVariants as no_request
 use Rattle.arguments.specs.Arguments.{IsGivenArgument, flag_parser}
-use Rattle.arguments.specs.CommandWords.{flag_given, number_given, AsksNoTask, Begins, FailsAs, IsNoRequest, IsNoRequestBy, MayFail, of_run, of_two_orders, of_replay, of_races, of_check, of_explain, of_waves, of_diff, of_others, has_two_orders, other_faults, check_app, check_faults, explain_app, explain_faults, races_app, races_faults, replay_app, replay_faults, run_app, run_faults, run_rows, waves_app, waves_faults, diff_app, diff_faults, whole_app}
+use Rattle.arguments.specs.CommandWords.{flag_given, number_given, AsksNoTask, Begins, FailsAs, IsNoRequest, IsNoRequestBy, MayFail, of_run, of_two_orders, of_replay, of_races, of_nothing_observed, of_samples, of_check, of_explain, of_no_radix, of_waves, of_diff, of_others, has_two_orders, other_faults, check_app, check_faults, explain_app, explain_faults, explain_rows, HasNoRadix, races_app, races_faults, races_rows, replay_app, replay_faults, run_app, run_faults, run_rows, waves_app, waves_faults, diff_app, diff_faults, whole_app}
 
 whole_is_free : is_simple_and_free whole_app ≡ true
 unfolding whole_app run_app replay_app races_app check_app explain_app waves_app diff_app
@@ -100,6 +101,31 @@ pub two_orders_fail : (words own : List Text) (rows : List Row) (e : Error) → 
 two_orders_fail words own rows e begins same found two (inl h) = inl h
 two_orders_fail words own rows e begins same found two (inr h) =
     inr (of_two_orders begins (subst (λ (w : List Text). has_two_orders (run_rows w) ≡ true) same (subst (λ (r : List Row). has_two_orders r ≡ true) found two)) h)
+
+-- a search for races that is to observe nothing that can be
+pub nothing_observed_fails : (words own : List Text) (rows : List Row) (e : Error) → Begins words (codes "races") → own ≡ drop 1 words → rows ≡ races_rows own
+    → ObservesNothing (first_of (codes "observe") rows) → (kind_of e ≡ OutOfMemory) ⊎ (kind_of e ≡ InvalidValue) → FailsAs words (kind_of e)
+nothing_observed_fails words own rows e begins same found nothing (inl h) = inl h
+nothing_observed_fails words own rows e begins same found nothing (inr h) =
+    inr (of_nothing_observed begins (subst (λ (r : List Row). ObservesNothing (first_of (codes "observe") r)) (found ∙ ap races_rows same) nothing) h)
+
+-- or something else than lines of random orders
+pub samples_fail : (words own : List Text) (rows : List Row) (e : Error) → Begins words (codes "races") → own ≡ drop 1 words → rows ≡ races_rows own
+    → is_some (number_given (codes "samples") rows) ≡ true → ObservesOther (first_of (codes "observe") rows)
+    → (kind_of e ≡ OutOfMemory) ⊎ (kind_of e ≡ ArgumentConflict) → FailsAs words (kind_of e)
+samples_fail words own rows e begins same found some other (inl h) = inl h
+samples_fail words own rows e begins same found some other (inr h) =
+    let rows_are : rows ≡ races_rows (drop 1 words) = found ∙ ap races_rows same in
+    inr
+    (of_samples begins (subst (λ (r : List Row). is_some (number_given (codes "samples") r) ≡ true) rows_are some)
+    (subst (λ (r : List Row). ObservesOther (first_of (codes "observe") r)) rows_are other) h)
+
+-- or a telling of a journal in digits that a letter doesn't stand for
+pub no_radix_fails : (words own : List Text) (rows : List Row) (e : Error) → Begins words (codes "explain") → own ≡ drop 1 words → rows ≡ explain_rows own
+    → HasNoRadix (first_of (codes "radix") rows) → (kind_of e ≡ OutOfMemory) ⊎ (kind_of e ≡ InvalidValue) → FailsAs words (kind_of e)
+no_radix_fails words own rows e begins same found none (inl h) = inl h
+no_radix_fails words own rows e begins same found none (inr h) =
+    inr (of_no_radix begins (subst (λ (r : List Row). HasNoRadix (first_of (codes "radix") r)) (found ∙ ap explain_rows same) none) h)
 
 pub others_fail : (words : List Text) (e : Error) → AsksNoTask words → HasKind (other_faults words) e → FailsAs words (kind_of e)
 others_fail words e none (inl h) = inl h

@@ -97,9 +97,18 @@ parameters_of task.Races =
     ∷ parameter.JournalsTo
     ∷ parameter.Samples
     ∷ parameter.Seed
+    ∷ parameter.Observe
     ∷ []
 parameters_of task.Check = parameter.File ∷ parameter.All ∷ []
-parameters_of task.Explain = parameter.File ∷ parameter.Journal ∷ parameter.From ∷ parameter.To ∷ []
+parameters_of task.Explain =
+    parameter.File
+    ∷ parameter.Journal
+    ∷ parameter.From
+    ∷ parameter.To
+    ∷ parameter.Radix
+    ∷ parameter.Versions
+    ∷ parameter.Registers
+    ∷ []
 parameters_of task.Waves = parameter.File ∷ parameter.Journal ∷ parameter.Out ∷ []
 parameters_of task.Diff = parameter.File ∷ parameter.FirstJournal ∷ parameter.SecondJournal ∷ []
 
@@ -117,8 +126,12 @@ rule_for parameter.MaxTexts = rule (codes "max-texts") false (Some entries_parse
 rule_for parameter.MaxMemory = rule (codes "max-memory") false (Some entries_parser)
 rule_for parameter.Samples = rule (codes "samples") false (Some entries_parser)
 rule_for parameter.Seed = rule (codes "seed") false (Some seed_parser)
+rule_for parameter.Observe = rule (codes "observe") false None
 rule_for parameter.From = rule (codes "from") false (Some entries_parser)
 rule_for parameter.To = rule (codes "to") false (Some entries_parser)
+rule_for parameter.Radix = rule (codes "radix") false None
+rule_for parameter.Versions = flag_rule (codes "versions")
+rule_for parameter.Registers = rule (codes "registers") false None
 rule_for parameter.JournalTo = rule (codes "journal") false None
 rule_for parameter.JournalsTo = rule (codes "journals") false None
 rule_for parameter.Out = rule (codes "out") true None
@@ -168,6 +181,7 @@ pub record GivesExplain (f : Found) : Type 0 where
   pub journal : is_some (first_value f (codes "JOURNAL")) ≡ true
   pub from : IsGivenArgument f (codes "from") entries_parser
   pub to : IsGivenArgument f (codes "to") entries_parser
+  pub versions : IsGivenArgument f (codes "versions") flag_parser
 
 -- what a parse of `waves` gives
 pub record GivesWaves (f : Found) : Type 0 where

@@ -1,11 +1,11 @@
 -- What the words of a command line ask for, by what clap finds in them.
-use Rattle.std.specs.Prelude.{◌≡◌, ◌≢◌, ◌⊎◌, ℕ, List, [], ◌∷◌, Option, Some, None, is_some, ◌&&◌, Bool, map, drop, slice_get, option_map, unwrap_or, string_bytes, codes, String, true, false}
+use Rattle.std.specs.Prelude.{◌≡◌, ◌≢◌, ◌⊎◌, ℕ, List, [], ◌∷◌, Option, Some, None, is_some, ◌&&◌, Bool, if◌then◌else◌, map, drop, slice_get, option_map, unwrap_or, string_bytes, codes, String, true, false}
 use Rattle.std.specs.Str.Parse.{digits_value, without_leading_plus}
 use Rattle.clap.specs.Words.{App, Row, Rule, Text, Kinds, IsAmong, fault_of, first_of, matches_of, new_app, new_rule, one_of, with_rule, with_subcommand}
 use Rattle.clap.specs.Kinds.{or_else}
 use Rattle.clap.specs.Simple.{on_top}
 use Rattle.clap.specs.declared.error.kind.ErrorKind.{ErrorKind}
-use Rattle.clap.specs.declared.error.kind.ErrorKind.TheVariants.{ArgumentConflict, DisplayHelp, DisplayVersion, MissingSubcommand, OutOfMemory}
+use Rattle.clap.specs.declared.error.kind.ErrorKind.TheVariants.{ArgumentConflict, DisplayHelp, DisplayVersion, InvalidValue, MissingSubcommand, OutOfMemory}
 use Rattle.clap.specs.declared.builder.action.ArgAction.TheVariants.{Set, SetTrue}
 use Rattle.clap.specs.declared.builder.value_parser.ValueParser.{ValueParser}
 use Rattle.arguments.specs.declared.run_options.RunOptions.{RunOptions}
@@ -25,8 +25,14 @@ use Rattle.arguments.specs.declared.parameters.Parameter.TheVariants as paramete
 use Rattle.arguments.specs.declared.command_task.CommandTask.{CommandTask}
 use Rattle.arguments.specs.declared.command_task.CommandTask.TheVariants as task
 use Rattle.arguments.specs.declared.search_options.SearchOptions.{SearchOptions}
+use Rattle.arguments.specs.declared.vain_words.VainWords.{VainWords}
+use Rattle.arguments.specs.declared.vain_words.VainWords.TheVariants as vain
 use Rattle.arguments.specs.Options.{CanRun, CanSearch}
+use Rattle.arguments.specs.Observing.{IsObserved, ObservesNothing, ObservesOther}
 use Rattle.std.specs.Str.{bytes_eq}
+use Rattle.std.specs.Option.{option_map_or}
+use Rattle.literals.specs.declared.literal.Radix.{Radix}
+use Rattle.literals.specs.declared.literal.Radix.TheVariants.{Binary, Decimal, Hex}
 use Rattle.arguments.specs.Arguments.{flag_parser, workers_parser, until_parser, entries_parser, seed_parser}
 
 -- the bytes of each word
@@ -68,8 +74,12 @@ argument_of parameter.MaxTexts = choice (codes "max-texts") (Some entries_parser
 argument_of parameter.MaxMemory = choice (codes "max-memory") (Some entries_parser)
 argument_of parameter.Samples = choice (codes "samples") (Some entries_parser)
 argument_of parameter.Seed = choice (codes "seed") (Some seed_parser)
+argument_of parameter.Observe = choice (codes "observe") None
 argument_of parameter.From = choice (codes "from") (Some entries_parser)
 argument_of parameter.To = choice (codes "to") (Some entries_parser)
+argument_of parameter.Radix = choice (codes "radix") None
+argument_of parameter.Versions = flag (codes "versions")
+argument_of parameter.Registers = choice (codes "registers") None
 argument_of parameter.JournalTo = choice (codes "journal") None
 argument_of parameter.JournalsTo = choice (codes "journals") None
 argument_of parameter.Out = need (codes "out")
@@ -113,6 +123,7 @@ races_app =
     (with_rule
     (with_rule
     (with_rule
+    (with_rule
     (with_rule (new_app (codes "races")) (place (codes "FILE")))
     (choice (codes "until") (Some until_parser)))
     (choice (codes "max-entries") (Some entries_parser)))
@@ -121,7 +132,8 @@ races_app =
     (choice (codes "max-memory") (Some entries_parser)))
     (choice (codes "journals") None))
     (choice (codes "samples") (Some entries_parser)))
-    (choice (codes "seed") (Some seed_parser))
+    (choice (codes "seed") (Some seed_parser)))
+    (choice (codes "observe") None)
 
 -- `check` with its word and option
 unfoldable pub check_app : App
@@ -136,10 +148,16 @@ explain_app =
     with_rule
     (with_rule
     (with_rule
+    (with_rule
+    (with_rule
+    (with_rule
     (with_rule (new_app (codes "explain")) (place (codes "FILE")))
     (place (codes "JOURNAL")))
     (choice (codes "from") (Some entries_parser)))
-    (choice (codes "to") (Some entries_parser))
+    (choice (codes "to") (Some entries_parser)))
+    (choice (codes "radix") None))
+    (flag (codes "versions")))
+    (choice (codes "registers") None)
 
 -- `waves` with its words and option
 unfoldable pub waves_app : App
@@ -239,6 +257,14 @@ number_given name rows = option_map (λ text. digits_value 10 (without_leading_p
 abbrev pub flag_given : Text → List Row → Bool
 flag_given name rows = bytes_eq (unwrap_or (one_of name rows) []) (codes "true")
 
+-- the digits that a letter stands for, binary ones where it is no other
+abbrev pub radix_of : Text → Radix
+radix_of letter = if bytes_eq letter (codes "d") then Decimal else (if bytes_eq letter (codes "h") then Hex else Binary)
+
+-- in which digits values are told: binary ones where the words give none
+abbrev pub radix_given : List Row → Radix
+radix_given rows = option_map_or radix_of (first_of (codes "radix") rows) Binary
+
 -- the options of a run: 2 workers, no limit of time and 1,000,000 entries where the words give no other number
 abbrev pub options_of : List Row → RunOptions
 options_of rows = record {
@@ -264,10 +290,43 @@ search_options_of rows = record {
 abbrev pub has_two_orders : List Row → Bool
 has_two_orders rows = is_some (first_of (codes "seed") rows) && is_some (first_of (codes "workers") rows)
 
+-- the kind of error by which words are answered that clap takes, and that ask for nothing that can be
+abbrev pub kind_in_vain : VainWords → ErrorKind
+kind_in_vain vain.TwoOrders = ArgumentConflict
+kind_in_vain vain.NothingObserved = InvalidValue
+kind_in_vain vain.SamplesObserved = ArgumentConflict
+kind_in_vain vain.NoRadix = InvalidValue
+
 -- the words of a run give both a seed and a number of workers, which is answered by this kind of error
 abbrev pub AsksTwoOrders : CommandTask → List Row → ErrorKind → Type 0
 AsksTwoOrders asked rows kind =
     (asked ≡ task.Run) × (has_two_orders rows ≡ true) × ((kind ≡ OutOfMemory) ⊎ (kind ≡ ArgumentConflict))
+
+-- the words of a search for races name nothing that can be observed, which is answered by this kind of error
+abbrev pub ObservesInVain : CommandTask → List Row → ErrorKind → Type 0
+ObservesInVain asked rows kind =
+    (asked ≡ task.Races) × ObservesNothing (first_of (codes "observe") rows) × ((kind ≡ OutOfMemory) ⊎ (kind ≡ InvalidValue))
+
+-- the words of a search for races ask for random orders, which are compared by their lines, and to compare runs by something else, which is
+-- answered by this kind of error
+abbrev pub SamplesInVain : CommandTask → List Row → ErrorKind → Type 0
+SamplesInVain asked rows kind =
+    (asked ≡ task.Races) × (is_some (number_given (codes "samples") rows) ≡ true) × ObservesOther (first_of (codes "observe") rows)
+    × ((kind ≡ OutOfMemory) ⊎ (kind ≡ ArgumentConflict))
+
+-- a letter is given that stands for no digits
+abbrev pub HasNoRadix : Option Text → Type 0
+HasNoRadix None = ⊥
+HasNoRadix (Some letter) = (letter ≢ codes "b") × (letter ≢ codes "d") × (letter ≢ codes "h")
+
+-- the words of a telling of a journal give such a letter, which is answered by this kind of error
+abbrev pub TellsInVain : CommandTask → List Row → ErrorKind → Type 0
+TellsInVain asked rows kind = (asked ≡ task.Explain) × HasNoRadix (first_of (codes "radix") rows) × ((kind ≡ OutOfMemory) ⊎ (kind ≡ InvalidValue))
+
+-- so it is of words that ask for a task in one of these ways
+abbrev pub AsksInVain : CommandTask → List Row → ErrorKind → Type 0
+AsksInVain asked rows kind =
+    AsksTwoOrders asked rows kind ⊎ (ObservesInVain asked rows kind ⊎ (SamplesInVain asked rows kind ⊎ TellsInVain asked rows kind))
 
 -- the word after the program's name is this one
 abbrev pub Begins : List Text → Text → Type 0
@@ -302,11 +361,12 @@ pub record IsReplayOf (rows : List Row) (replay : ReplayRequest) : Type 0 where
   pub file : first_of (codes "FILE") rows ≡ Some replay.file.now
   pub journal : first_of (codes "JOURNAL") rows ≡ Some replay.journal.now
 
--- this search for races is asked for: of FILE, so far, and for journals at paths that begin with PREFIX where that is given
+-- this search for races is asked for: of FILE, so far, by what is to be observed of runs, and for journals at paths that begin with PREFIX where that is given
 pub record IsRacesOf (rows : List Row) (races : RacesRequest) : Type 0 where
   pub in_range : CanSearch races.search_options
   pub file : first_of (codes "FILE") rows ≡ Some races.file.now
   pub search_options : races.search_options ≡ search_options_of rows
+  pub observed : IsObserved (first_of (codes "observe") rows) races.observed
   pub journals : first_of (codes "journals") rows ≡ option_map (λ path. path.now) races.journals
 
 -- this check is asked for: of FILE, and of all places of each note where `--all` is given
@@ -315,12 +375,16 @@ pub record IsCheckOf (rows : List Row) (check : CheckRequest) : Type 0 where
   pub all : check.all ≡ flag_given (codes "all") rows
 
 -- this telling is asked for: of JOURNAL on FILE, from one entry to another, where the words give them, and else from the
--- first to the last
+-- first to the last, in these digits, with versions where `--versions` is given, and of the registers with these names alone
+-- where names are given
 pub record IsExplainOf (rows : List Row) (explain : ExplainRequest) : Type 0 where
   pub file : first_of (codes "FILE") rows ≡ Some explain.file.now
   pub journal : first_of (codes "JOURNAL") rows ≡ Some explain.journal.now
   pub from : explain.from ≡ unwrap_or (number_given (codes "from") rows) 1
   pub to : explain.to ≡ number_given (codes "to") rows
+  pub radix : explain.radix ≡ radix_given rows
+  pub versions : explain.versions ≡ flag_given (codes "versions") rows
+  pub registers : first_of (codes "registers") rows ≡ option_map (λ names. names.now) explain.registers
 
 -- this value change dump is asked for: of JOURNAL on FILE, in OUT
 pub record IsWavesOf (rows : List Row) (waves : WavesRequest) : Type 0 where
@@ -427,14 +491,18 @@ faults_by asked = fault_of (app_by asked)
 unfoldable pub other_faults : List Text → Kinds
 other_faults words = or_else (fault_of whole_app words) (MissingSubcommand ∷ [])
 
--- clap may answer the words by this kind of error, or they ask for a run both by a seed and on workers
+-- clap may answer the words by this kind of error, or they ask for a run both by a seed and on workers, or to observe nothing that can be, or something else than lines of
+-- random orders, or to be told a journal in digits that a letter doesn't stand for
 pub data MayFail (words : List Text) (kind : ErrorKind) : Type 0 where
   of_run : Begins words (codes "run") → IsAmong kind (run_faults (drop 1 words)) → MayFail words kind
   of_two_orders : Begins words (codes "run") → has_two_orders (run_rows (drop 1 words)) ≡ true → kind ≡ ArgumentConflict → MayFail words kind
   of_replay : Begins words (codes "replay") → IsAmong kind (replay_faults (drop 1 words)) → MayFail words kind
   of_races : Begins words (codes "races") → IsAmong kind (races_faults (drop 1 words)) → MayFail words kind
+  of_nothing_observed : Begins words (codes "races") → ObservesNothing (first_of (codes "observe") (races_rows (drop 1 words))) → kind ≡ InvalidValue → MayFail words kind
+  of_samples : Begins words (codes "races") → is_some (number_given (codes "samples") (races_rows (drop 1 words))) ≡ true → ObservesOther (first_of (codes "observe") (races_rows (drop 1 words))) → kind ≡ ArgumentConflict → MayFail words kind
   of_check : Begins words (codes "check") → IsAmong kind (check_faults (drop 1 words)) → MayFail words kind
   of_explain : Begins words (codes "explain") → IsAmong kind (explain_faults (drop 1 words)) → MayFail words kind
+  of_no_radix : Begins words (codes "explain") → HasNoRadix (first_of (codes "radix") (explain_rows (drop 1 words))) → kind ≡ InvalidValue → MayFail words kind
   of_waves : Begins words (codes "waves") → IsAmong kind (waves_faults (drop 1 words)) → MayFail words kind
   of_diff : Begins words (codes "diff") → IsAmong kind (diff_faults (drop 1 words)) → MayFail words kind
   of_others : AsksNoTask words → IsAmong kind (other_faults words) → MayFail words kind

@@ -1,3 +1,4 @@
+pub mod Observing
 pub mod Arguments
 pub mod Options
 pub mod CommandWords

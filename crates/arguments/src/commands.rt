@@ -2,19 +2,18 @@
 
 ghost use Rattle.std.specs.Prelude.{◌≡◌, [], IfErr, IfOk};
 ghost use Rattle.clap.specs.Words.{HasKind, IsAmong, app_of, found_of, kind_of, new_app, rows_of};
-ghost use Rattle.clap.specs.declared.error.kind.ErrorKind.TheVariants.{ArgumentConflict, MissingSubcommand};
+ghost use Rattle.clap.specs.declared.error.kind.ErrorKind.TheVariants.{MissingSubcommand};
 ghost use Rattle.arguments.specs.Arguments.{Gives, HasRules, rules_of};
-ghost use Rattle.arguments.specs.CommandWords.{app_by, bare_app, faults_by, other_faults, rows_by, texts_of, whole_app, word_of_task};
+ghost use Rattle.arguments.specs.CommandWords.{app_by, bare_app, faults_by, kind_in_vain, other_faults, rows_by, texts_of, whole_app, word_of_task};
 
 use crate::command_task::CommandTask;
 use crate::parameters::argument;
 use crate::task_parameters::parameters;
+use crate::vain_words::VainWords;
 use crate::version::VERSION;
 use clap::error::ErrorKind;
 use clap::{ArgMatches, Command, Error};
 use std::alloc::{AllocError, Global};
-
-const TWO_ORDERS: &str = "the argument '--seed <S>' cannot be used with '--workers <N>'";
 
 /// What is found in the words of a task, from the one on that asks for it.
 pub fn task_matches<'a>(
@@ -37,12 +36,14 @@ pub fn whole_matches<'a>(alloc: Global, words: &'a [String]) -> Result<ArgMatche
     program(alloc)?.try_get_matches_from(words)
 }
 
-pub fn conflict(alloc: Global) -> Result<Error, AllocError>
-    ensures { IfOk result (λ e. kind_of e ≡ ArgumentConflict) }
+/// The error by which words are answered that ask in vain.
+pub fn said_in_vain(alloc: Global, vain: VainWords) -> Result<Error, AllocError>
+    ensures { IfOk result (λ e. kind_of e ≡ kind_in_vain vain) }
 {
-    command(alloc, CommandTask::Run)?.error(ErrorKind::ArgumentConflict, TWO_ORDERS)
+    command(alloc, vain.task())?.error(vain.kind(), vain.text())
 }
 
+/// The error by which words are answered that ask for no task.
 pub fn missing(alloc: Global) -> Result<Error, AllocError>
     ensures { IfOk result (λ e. kind_of e ≡ MissingSubcommand) }
 {

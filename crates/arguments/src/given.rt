@@ -1,12 +1,14 @@
 //! What was found in the words of a command, as a request.
 
-ghost use Rattle.std.specs.Prelude.{◌≡◌, ◌≤◌, ◌^◌, ◌∷◌, IfSome, codes, is_some, unwrap_or, false};
-ghost use Rattle.clap.specs.Words.{first_of, found_of, rows_of};
+ghost use Rattle.std.specs.Prelude.{◌≡◌, ◌≤◌, ◌^◌, ◌∷◌, IfSome, None, Some, codes, is_some, option_map, unwrap_or, false, true};
+ghost use Rattle.clap.specs.Words.{first_of, first_value, found_of, rows_of};
 ghost use Rattle.model.specs.Runs.{last_time};
 ghost use Rattle.arguments.specs.Arguments.{IsGivenArgument, GivesRun, GivesReplay, GivesRaces, GivesCheck, GivesExplain, GivesWaves, GivesDiff, flag_parser, workers_parser, until_parser, entries_parser, seed_parser};
+ghost use Rattle.arguments.specs.Observing.{IsObserved, ObservesNothing};
 ghost use Rattle.arguments.specs.Options.{CanRun, CanSearch};
-ghost use Rattle.arguments.specs.CommandWords.{IsCheckOf, IsDiffOf, IsExplainOf, IsRacesOf, IsReplayOf, IsRunOf, IsWavesOf, search_options_of, flag_given, has_two_orders, number_given, options_of};
+ghost use Rattle.arguments.specs.CommandWords.{HasNoRadix, IsCheckOf, IsDiffOf, IsExplainOf, IsRacesOf, IsReplayOf, IsRunOf, IsWavesOf, search_options_of, flag_given, has_two_orders, number_given, options_of, radix_given, radix_of};
 
+use crate::observed::{Observed, observed_by};
 use crate::request::{
     CheckRequest, DiffRequest, ExplainRequest, RacesRequest, ReplayRequest, RunRequest,
     WavesRequest,
@@ -14,6 +16,7 @@ use crate::request::{
 use crate::run_options::RunOptions;
 use crate::search_options::SearchOptions;
 use clap::ArgMatches;
+use literals::Radix;
 
 const DEFAULT_WORKERS: u32 = 2;
 
@@ -34,10 +37,10 @@ pub fn run_request<'a>(matches: &ArgMatches<'a>) -> RunRequest<'a>
     ensures { IsRunOf (rows_of (found_of matches.now)) result }
 {
     RunRequest {
-        file: matches.get_str("FILE").unwrap(),
+        file: given_word(matches, "FILE"),
         options: options(matches),
         seed: given_seed(matches),
-        journal: matches.get_str("journal"),
+        journal: given_text(matches, "journal"),
     }
 }
 
@@ -46,20 +49,42 @@ pub fn replay_request<'a>(matches: &ArgMatches<'a>) -> ReplayRequest<'a>
     requires { GivesReplay (found_of matches.now) }
     ensures { IsReplayOf (rows_of (found_of matches.now)) result }
 {
-    let file = matches.get_str("FILE").unwrap();
-    let journal = matches.get_str("JOURNAL").unwrap();
-    ReplayRequest { file, journal }
+    ReplayRequest {
+        file: given_word(matches, "FILE"),
+        journal: given_word(matches, "JOURNAL"),
+    }
 }
 
-/// The search that the words of `races` ask for, with the defaults of what they leave out.
-pub fn races_request<'a>(matches: &ArgMatches<'a>) -> RacesRequest<'a>
+/// What the words of `races` ask to observe of runs: the lines, where they leave it out. None where it is nothing that can be.
+pub fn given_observed<'a>(matches: &ArgMatches<'a>) -> Option<Observed<'a>>
+    ensures some { IfSome result (IsObserved (first_of (codes "observe") (rows_of (found_of matches.now)))) }
+    ensures none { result ≡ None → ObservesNothing (first_of (codes "observe") (rows_of (found_of matches.now))) }
+{
+    match given_text(matches, "observe") {
+        Some(text) => observed_by(text),
+        None => Some(Observed::Lines),
+    }
+}
+
+/// Whether random orders are asked for.
+pub fn gives_samples(matches: &ArgMatches<'_>) -> bool
     requires { GivesRaces (found_of matches.now) }
+    ensures { result ≡ is_some (number_given (codes "samples") (rows_of (found_of matches.now))) }
+{
+    given_number(matches, "samples").is_some()
+}
+
+/// The search that the words of `races` ask for, by what they ask to observe, with the defaults of what they leave out.
+pub fn races_request<'a>(matches: &ArgMatches<'a>, observed: Observed<'a>) -> RacesRequest<'a>
+    requires given { GivesRaces (found_of matches.now) }
+    requires observed { IsObserved (first_of (codes "observe") (rows_of (found_of matches.now))) observed }
     ensures { IsRacesOf (rows_of (found_of matches.now)) result }
 {
     RacesRequest {
-        file: matches.get_str("FILE").unwrap(),
+        file: given_word(matches, "FILE"),
         search_options: search_options(matches),
-        journals: matches.get_str("journals"),
+        observed,
+        journals: given_text(matches, "journals"),
     }
 }
 
@@ -69,7 +94,7 @@ pub fn check_request<'a>(matches: &ArgMatches<'a>) -> CheckRequest<'a>
     ensures { IsCheckOf (rows_of (found_of matches.now)) result }
 {
     CheckRequest {
-        file: matches.get_str("FILE").unwrap(),
+        file: given_word(matches, "FILE"),
         all: given_flag(matches, "all"),
     }
 }
@@ -77,16 +102,20 @@ pub fn check_request<'a>(matches: &ArgMatches<'a>) -> CheckRequest<'a>
 /// Where a journal is told from its begin.
 const FIRST_ENTRY: u32 = 1;
 
-/// The explanation that the words of `explain` ask for: from which entry on, and up to which, if that is given.
+/// The explanation that the words of `explain` ask for: from which entry on, and up to which, if that is given, in which digits,
+/// whether with versions, and of which registers alone, if any are given.
 pub fn explain_request<'a>(matches: &ArgMatches<'a>) -> ExplainRequest<'a>
     requires { GivesExplain (found_of matches.now) }
     ensures { IsExplainOf (rows_of (found_of matches.now)) result }
 {
     ExplainRequest {
-        file: matches.get_str("FILE").unwrap(),
-        journal: matches.get_str("JOURNAL").unwrap(),
+        file: given_word(matches, "FILE"),
+        journal: given_word(matches, "JOURNAL"),
         from: given_count(matches, "from", FIRST_ENTRY),
         to: given_number(matches, "to"),
+        radix: given_radix(matches),
+        versions: given_flag(matches, "versions"),
+        registers: given_text(matches, "registers"),
     }
 }
 
@@ -95,10 +124,11 @@ pub fn waves_request<'a>(matches: &ArgMatches<'a>) -> WavesRequest<'a>
     requires { GivesWaves (found_of matches.now) }
     ensures { IsWavesOf (rows_of (found_of matches.now)) result }
 {
-    let file = matches.get_str("FILE").unwrap();
-    let journal = matches.get_str("JOURNAL").unwrap();
-    let out = matches.get_str("out").unwrap();
-    WavesRequest { file, journal, out }
+    WavesRequest {
+        file: given_word(matches, "FILE"),
+        journal: given_word(matches, "JOURNAL"),
+        out: given_word(matches, "out"),
+    }
 }
 
 /// The comparison that the words of `diff` ask for: of which journals, on which source.
@@ -106,14 +136,26 @@ pub fn diff_request<'a>(matches: &ArgMatches<'a>) -> DiffRequest<'a>
     requires { GivesDiff (found_of matches.now) }
     ensures { IsDiffOf (rows_of (found_of matches.now)) result }
 {
-    let file = matches.get_str("FILE").unwrap();
-    let first = matches.get_str("J1").unwrap();
-    let second = matches.get_str("J2").unwrap();
     DiffRequest {
-        file,
-        first,
-        second,
+        file: given_word(matches, "FILE"),
+        first: given_word(matches, "J1"),
+        second: given_word(matches, "J2"),
     }
+}
+
+/// The text that is given under a name, if one is.
+fn given_text<'a>(matches: &ArgMatches<'a>, name: &str) -> Option<&'a str>
+    ensures { first_of name.now (rows_of (found_of matches.now)) ≡ option_map (λ text. text.now) result }
+{
+    matches.get_str(name)
+}
+
+/// The word that is given under a name, where one has to be.
+fn given_word<'a>(matches: &ArgMatches<'a>, name: &str) -> &'a str
+    requires { is_some (first_value (found_of matches.now) name.now) ≡ true }
+    ensures { first_of name.now (rows_of (found_of matches.now)) ≡ Some result.now }
+{
+    matches.get_str(name).unwrap()
 }
 
 /// Whether both a seed and a number of workers are given.
@@ -127,7 +169,7 @@ pub fn gives_two_orders(matches: &ArgMatches<'_>) -> bool
 fn gives(matches: &ArgMatches<'_>, name: &str) -> bool
     ensures { result ≡ is_some (first_of name.now (rows_of (found_of matches.now))) }
 {
-    match matches.get_str(name) {
+    match given_text(matches, name) {
         Some(_) => true,
         None => false,
     }
@@ -187,6 +229,52 @@ fn given_until(matches: &ArgMatches<'_>) -> Option<u64>
     ensures given { result ≡ number_given (codes "until") (rows_of (found_of matches.now)) }
 {
     matches.get_one::<u64>("until")
+}
+
+/// In which digits values are told: binary ones where none are given.
+fn given_radix(matches: &ArgMatches<'_>) -> Radix
+    ensures { result ≡ radix_given (rows_of (found_of matches.now)) }
+{
+    match given_text(matches, "radix") {
+        Some(letter) => radix_of(letter),
+        None => Radix::Binary,
+    }
+}
+
+/// Whether a letter is given that stands for no digits.
+pub fn has_no_radix(matches: &ArgMatches<'_>) -> bool
+    ensures { result ≡ true → HasNoRadix (first_of (codes "radix") (rows_of (found_of matches.now))) }
+{
+    match given_text(matches, "radix") {
+        Some(letter) => stands_for_none(letter),
+        None => false,
+    }
+}
+
+/// Whether a letter stands for no digits.
+fn stands_for_none(letter: &str) -> bool
+    ensures { result ≡ true → HasNoRadix (Some letter.now) }
+{
+    if letter == "b" {
+        return false;
+    }
+    if letter == "d" {
+        return false;
+    }
+    letter != "h"
+}
+
+/// The digits that a letter stands for, binary ones where it is no other.
+fn radix_of(letter: &str) -> Radix
+    ensures { result ≡ radix_of letter.now }
+{
+    if letter == "d" {
+        Radix::Decimal
+    } else if letter == "h" {
+        Radix::Hex
+    } else {
+        Radix::Binary
+    }
 }
 
 fn given_seed(matches: &ArgMatches<'_>) -> Option<u64>

@@ -16,6 +16,9 @@ const MAX_TEXTS: &str = "Most different texts that are shown, 1 to 4294967295 [d
 
 const MAX_MEMORY: &str = "Most megabytes that the search keeps, 1 to 4294967295 [default: 4096]";
 
+const OBSERVE: &str =
+    "What runs are compared by: lines, lines-at-times, registers or registers=A,B [default: lines]";
+
 const SAMPLES: &str = "Tries N random lawful orders in place of the search, 1 to 4294967295";
 
 /// A word or an option of a command.
@@ -33,8 +36,12 @@ pub enum Parameter {
     MaxMemory,
     Samples,
     Seed,
+    Observe,
     From,
     To,
+    Radix,
+    Versions,
+    Registers,
     JournalTo,
     JournalsTo,
     Out,
@@ -44,6 +51,12 @@ pub enum Parameter {
 const FROM: &str = "First entry that is told, 1 to 4294967295 [default: 1]";
 
 const TO: &str = "Last entry that is told, 1 to 4294967295 [default: the last]";
+
+const RADIX: &str = "Digits of values: b, d or h, for binary, decimal or hex ones [default: b]";
+
+const VERSIONS: &str = "Says at each read how often the register had changed";
+
+const REGISTERS: &str = "Tells only entries that read, write, assign or update one of these: A,B";
 
 const JOURNAL_TO: &str = "Where to write the journal";
 
@@ -71,8 +84,12 @@ pub fn argument<'a>(alloc: Global, parameter: Parameter) -> Arg<'a>
         Parameter::MaxMemory => memory(alloc),
         Parameter::Samples => count(alloc, "samples", SAMPLES),
         Parameter::Seed => seed(alloc),
+        Parameter::Observe => option(alloc, "observe", "WHAT", OBSERVE),
         Parameter::From => count(alloc, "from", FROM),
         Parameter::To => count(alloc, "to", TO),
+        Parameter::Radix => option(alloc, "radix", "R", RADIX),
+        Parameter::Versions => flag(alloc, "versions", VERSIONS),
+        Parameter::Registers => option(alloc, "registers", "NAMES", REGISTERS),
         Parameter::JournalTo => option(alloc, "journal", "OUT", JOURNAL_TO),
         Parameter::JournalsTo => option(alloc, "journals", "PREFIX", JOURNALS_TO),
         Parameter::Out => option(alloc, "out", "OUT", OUT).required(true),

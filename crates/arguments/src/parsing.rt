@@ -4,24 +4,29 @@
 //! arguments `clap` promises that a required one has a value, and that each value passed its
 //! parser. So reading a path can't fail, and the options of a request are those of a run.
 
-ghost use Rattle.std.specs.Prelude.{◌≡◌, ◌⊎◌, IfErr, IfOk, IfSome, None, true, false, codes, drop};
-ghost use Rattle.clap.specs.Words.{found_of, kind_of, rows_of};
-ghost use Rattle.clap.specs.declared.error.kind.ErrorKind.TheVariants.{ArgumentConflict, MissingSubcommand, OutOfMemory};
-ghost use Rattle.arguments.specs.Arguments.{Gives, GivesRun};
-ghost use Rattle.arguments.specs.CommandWords.{Asks, AsksNoTask, AsksTwoOrders, Begins, FailsAs, IsAskedBy, IsNoRequest, IsNoRequestBy, texts_of, word_of_task};
+ghost use Rattle.std.specs.Prelude.{◌≡◌, ◌⊎◌, IfErr, IfOk, IfSome, None, true, false, codes, drop, is_some, ◌≢◌};
+ghost use Rattle.clap.specs.Words.{first_of, found_of, kind_of, rows_of};
+ghost use Rattle.clap.specs.declared.error.kind.ErrorKind.TheVariants.{MissingSubcommand, OutOfMemory};
+ghost use Rattle.clap.specs.declared.error.kind.ErrorKind.{ErrorKind};
+ghost use Rattle.arguments.specs.Arguments.{Gives, GivesExplain, GivesRaces, GivesRun};
+ghost use Rattle.arguments.specs.CommandWords.{Asks, AsksInVain, AsksNoTask, Begins, FailsAs, IsAskedBy, IsNoRequest, IsNoRequestBy, kind_in_vain, number_given, texts_of, word_of_task};
 ghost use Rattle.arguments.specs.declared.command_task.CommandTask.{CommandTask};
-ghost use Rattle.arguments.specs.declared.command_task.CommandTask.TheVariants.{Run};
+ghost use Rattle.arguments.specs.declared.command_task.CommandTask.TheVariants.{Explain, Races, Run};
+ghost use Rattle.arguments.specs.Observing.{IsObserved};
+ghost use Rattle.arguments.specs.declared.observed.Observed.TheVariants.{Lines};
 
 use crate::command_task::CommandTask;
-use crate::commands::{conflict, missing, task_matches, whole_matches};
+use crate::commands::{missing, said_in_vain, task_matches, whole_matches};
 use crate::given::{
-    check_request, diff_request, explain_request, gives_two_orders, races_request, replay_request,
-    run_request, waves_request,
+    check_request, diff_request, explain_request, given_observed, gives_samples, gives_two_orders,
+    has_no_radix, races_request, replay_request, run_request, waves_request,
 };
+use crate::observed::Observed;
 use crate::request::{NoRequest, Request};
+use crate::vain_words::VainWords;
 use clap::error::ErrorKind;
 use clap::{ArgMatches, Error};
-use std::alloc::Global;
+use std::alloc::{AllocError, Global};
 
 /// The request that the words make. The first word is the program's name.
 pub fn read_request<'a>(alloc: Global, words: &'a [String]) -> Result<Request<'a>, NoRequest>
@@ -101,14 +106,14 @@ fn asked_request<'a>(
 ) -> Result<Request<'a>, Error>
     requires { Gives task (found_of matches.now) }
     ensures asked { IfOk result (IsAskedBy task (rows_of (found_of matches.now))) }
-    ensures failed { IfErr result (λ e. AsksTwoOrders task (rows_of (found_of matches.now)) (kind_of e)) }
+    ensures failed { IfErr result (λ e. AsksInVain task (rows_of (found_of matches.now)) (kind_of e)) }
 {
     match task {
         CommandTask::Run => asked_run(alloc, matches),
         CommandTask::Replay => Ok(Request::Replay(replay_request(matches))),
-        CommandTask::Races => Ok(Request::Races(races_request(matches))),
+        CommandTask::Races => asked_races(alloc, matches),
         CommandTask::Check => Ok(Request::Check(check_request(matches))),
-        CommandTask::Explain => Ok(Request::Explain(explain_request(matches))),
+        CommandTask::Explain => asked_telling(alloc, matches),
         CommandTask::Waves => Ok(Request::Waves(waves_request(matches))),
         CommandTask::Diff => Ok(Request::Diff(diff_request(matches))),
     }
@@ -118,12 +123,65 @@ fn asked_request<'a>(
 fn asked_run<'a>(alloc: Global, matches: &ArgMatches<'a>) -> Result<Request<'a>, Error>
     requires { GivesRun (found_of matches.now) }
     ensures asked { IfOk result (IsAskedBy Run (rows_of (found_of matches.now))) }
-    ensures failed { IfErr result (λ e. AsksTwoOrders Run (rows_of (found_of matches.now)) (kind_of e)) }
+    ensures failed { IfErr result (λ e. AsksInVain Run (rows_of (found_of matches.now)) (kind_of e)) }
 {
     if gives_two_orders(matches) {
-        return Err(two_orders(alloc));
+        return Err(in_vain(alloc, VainWords::TwoOrders));
     }
     Ok(Request::Run(run_request(matches)))
+}
+
+/// The search for races that words ask for, unless they ask to observe nothing that can be, or something else than lines of random orders.
+fn asked_races<'a>(alloc: Global, matches: &ArgMatches<'a>) -> Result<Request<'a>, Error>
+    requires { GivesRaces (found_of matches.now) }
+    ensures asked { IfOk result (IsAskedBy Races (rows_of (found_of matches.now))) }
+    ensures failed { IfErr result (λ e. AsksInVain Races (rows_of (found_of matches.now)) (kind_of e)) }
+{
+    match given_observed(matches) {
+        Some(observed) => races_by(alloc, matches, observed),
+        None => Err(in_vain(alloc, VainWords::NothingObserved)),
+    }
+}
+
+/// The search for races that words ask for by what is to be observed, unless that is something else than lines of random orders.
+fn races_by<'a>(
+    alloc: Global,
+    matches: &ArgMatches<'a>,
+    observed: Observed<'a>,
+) -> Result<Request<'a>, Error>
+    requires given { GivesRaces (found_of matches.now) }
+    requires observed { IsObserved (first_of (codes "observe") (rows_of (found_of matches.now))) observed }
+    ensures asked { IfOk result (IsAskedBy Races (rows_of (found_of matches.now))) }
+    ensures failed { IfErr result (λ e. AsksInVain Races (rows_of (found_of matches.now)) (kind_of e)) }
+{
+    if samples_other(matches, observed) {
+        return Err(in_vain(alloc, VainWords::SamplesObserved));
+    }
+    Ok(Request::Races(races_request(matches, observed)))
+}
+
+/// The telling of a journal that words ask for, unless in digits that a letter doesn't stand for.
+fn asked_telling<'a>(alloc: Global, matches: &ArgMatches<'a>) -> Result<Request<'a>, Error>
+    requires { GivesExplain (found_of matches.now) }
+    ensures asked { IfOk result (IsAskedBy Explain (rows_of (found_of matches.now))) }
+    ensures failed { IfErr result (λ e. AsksInVain Explain (rows_of (found_of matches.now)) (kind_of e)) }
+{
+    if has_no_radix(matches) {
+        return Err(in_vain(alloc, VainWords::NoRadix));
+    }
+    Ok(Request::Explain(explain_request(matches)))
+}
+
+/// Whether random orders are asked for, and something else than lines is to be observed.
+fn samples_other(matches: &ArgMatches<'_>, observed: Observed<'_>) -> bool
+    requires { GivesRaces (found_of matches.now) }
+    ensures samples { result ≡ true → is_some (number_given (codes "samples") (rows_of (found_of matches.now))) ≡ true }
+    ensures other { result ≡ true → observed.entry ≢ Lines }
+{
+    if !gives_samples(matches) {
+        return false;
+    }
+    !observed.is_lines()
 }
 
 /// The word after the program's name is this one.
@@ -147,14 +205,21 @@ fn own_words<'a>(words: &'a [String]) -> &'a [String]
     }
 }
 
-/// What to say of a seed beside a number of workers.
-fn two_orders(alloc: Global) -> Error
-    ensures { (kind_of result ≡ OutOfMemory) ⊎ (kind_of result ≡ ArgumentConflict) }
+/// An error that was made, or that memory is refused.
+fn made(error: Result<Error, AllocError>) -> Error
+    ensures { (kind : ErrorKind) → IfOk error (λ e. kind_of e ≡ kind) → (kind_of result ≡ OutOfMemory) ⊎ (kind_of result ≡ kind) }
 {
-    match conflict(alloc) {
+    match error {
         Ok(error) => error,
-        Err(error) => Error::from(error),
+        Err(refused) => Error::from(refused),
     }
+}
+
+/// What to say of words that ask in vain.
+fn in_vain(alloc: Global, vain: VainWords) -> Error
+    ensures { (kind_of result ≡ OutOfMemory) ⊎ (kind_of result ≡ kind_in_vain vain) }
+{
+    made(said_in_vain(alloc, vain))
 }
 
 /// What to say of words that ask for no task.
@@ -172,8 +237,5 @@ fn no_task(alloc: Global, words: &[String]) -> Error
 fn missing_subcommand(alloc: Global) -> Error
     ensures { (kind_of result ≡ OutOfMemory) ⊎ (kind_of result ≡ MissingSubcommand) }
 {
-    match missing(alloc) {
-        Ok(error) => error,
-        Err(error) => Error::from(error),
-    }
+    made(missing(alloc))
 }

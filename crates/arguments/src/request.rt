@@ -2,8 +2,10 @@
 
 ghost use Rattle.arguments.specs.Options.{CanRun, CanSearch};
 
+use crate::observed::Observed;
 use crate::run_options::RunOptions;
 use crate::search_options::SearchOptions;
+use literals::Radix;
 
 /// What the program was asked to do.
 #[derive(Drop)]
@@ -35,11 +37,12 @@ pub struct ReplayRequest<'a> {
     pub journal: &'a str,
 }
 
-/// `races FILE`, with the beginning of the paths of the journals where they are wanted.
+/// `races FILE`, with what is compared of the runs, and the beginning of the paths of the journals where they are wanted.
 #[derive(Drop)]
 pub struct RacesRequest<'a> {
     pub file: &'a str,
     pub search_options: SearchOptions,
+    pub observed: Observed<'a>,
     pub journals: Option<&'a str>,
     ghost fit: { CanSearch search_options },
 }
@@ -51,13 +54,17 @@ pub struct CheckRequest<'a> {
     pub all: bool,
 }
 
-/// `explain FILE JOURNAL`, of the entries from one number to another, which are counted from 1.
+/// `explain FILE JOURNAL`, of the entries from one number to another, which are counted from 1; in which digits values are told, and
+/// whether the versions of reads are; and of which registers alone, by their names, between which commas stand, where any are given.
 #[derive(Drop)]
 pub struct ExplainRequest<'a> {
     pub file: &'a str,
     pub journal: &'a str,
     pub from: u32,
     pub to: Option<u32>,
+    pub radix: Radix,
+    pub versions: bool,
+    pub registers: Option<&'a str>,
 }
 
 /// `waves FILE JOURNAL`, with the path of the value change dump.

@@ -7,7 +7,8 @@ use crate::command_task::CommandTask;
 use crate::parameters::Parameter;
 use crate::parameters::Parameter::{
     All, File, FirstJournal, From, Journal, JournalTo, JournalsTo, MaxEntries, MaxMemory,
-    MaxStates, MaxTexts, Out, Samples, SecondJournal, Seed, To, Until, Workers,
+    MaxStates, MaxTexts, Observe, Out, Radix, Registers, Samples, SecondJournal, Seed, To, Until,
+    Versions, Workers,
 };
 
 /// What the command of a task takes, in the order in which help shows it.
@@ -19,9 +20,10 @@ pub fn parameters(task: CommandTask) -> &'static [Parameter]
         CommandTask::Replay => &[File, Journal],
         CommandTask::Races => &[
             File, Until, MaxEntries, MaxStates, MaxTexts, MaxMemory, JournalsTo, Samples, Seed,
+            Observe,
         ],
         CommandTask::Check => &[File, All],
-        CommandTask::Explain => &[File, Journal, From, To],
+        CommandTask::Explain => &[File, Journal, From, To, Radix, Versions, Registers],
         CommandTask::Waves => &[File, Journal, Out],
         CommandTask::Diff => &[File, FirstJournal, SecondJournal],
     }

@@ -1,5 +1,5 @@
 -- Races that part texts.
-use Rattle.std.proofs.Common.{◌≡◌, ℕ, ◌+◌, ◌<◌, ◌≤◌, Bool, true, false, List, [], ◌∷◌, ◌++◌, length, Option, Some, None, Result, Ok, Err, refl, sym, subst, arith}
+use Rattle.std.proofs.Common.{◌≡◌, ℕ, ◌≤◌, Bool, true, false, List, [], ◌∷◌, ◌++◌, length, Option, Some, None, Result, Ok, Err, sym, subst}
 use Rattle.std.specs.Prelude.{IfOk, IfSome, if◌then◌else◌}
 use Rattle.std.specs.List.{All, AllPairs}
 use Rattle.sharing.specs.Parts.{Extends}
@@ -15,7 +15,7 @@ use Rattle.conflicts.specs.declared.bounds.Bound.TheVariants.{Races, Pairs}
 use Rattle.causes.specs.declared.parting_race.PartingRace.{PartingRace}
 use Rattle.races.specs.declared.told.Found.{Found}
 use Rattle.conflicts.specs.declared.bounds.RaceBounds.{RaceBounds}
-use Rattle.causes.specs.Causes.{AreCauses, AreNewBeside, AreOtherCauses, IsCauseBehind, IsShownCause, PartsRun}
+use Rattle.causes.specs.Causes.{AreCauses, AreNewBeside, AreOtherCauses, IsCauseBehind, IsShownCause, PartsRun, numbered_causes}
 use Rattle.races.specs.Races.{AreOthers}
 use Rattle.races.proofs.Kept.{kept_all, kept_pairs}
 
@@ -28,34 +28,30 @@ behind_first code limits journal first (Err e) is_run is parts = tt
 
 -- the same races, of which a bound cuts the list only where it is met
 pub with_cut : (code : Compiled) (limits : Limits) (bounds : RaceBounds) (found : Found) (c d : Causes) → AreCauses code limits bounds found c → d.causes.items ≡ c.causes.items
-    → (d.cut ≡ Some Races → length d.causes.items ≡ bounds.races) → (d.cut ≡ Some Pairs → d.runs ≡ 0) → AreCauses code limits bounds found d
+    → (d.cut ≡ Some Races → length (numbered_causes d.causes.items) ≡ bounds.races) → (d.cut ≡ Some Pairs → d.runs ≡ 0) → AreCauses code limits bounds found d
 with_cut code limits bounds found c d are same races pairs = record {
   shown = subst (λ (xs : List PartingRace). All (IsShownCause code limits) xs) (sym same) are.shown;
   distinct = subst (λ (xs : List PartingRace). AllPairs AreOtherCauses xs) (sym same) are.distinct;
   beside = subst (λ (xs : List PartingRace). All (λ cause. All (λ race. AreOthers race cause.race) found.races.items) xs) (sym same) are.beside;
-  few = subst (λ (xs : List PartingRace). length xs ≤ bounds.races) (sym same) are.few;
+  few = subst (λ (xs : List PartingRace). length (numbered_causes xs) ≤ bounds.races) (sym same) are.few;
   full_races = races;
   full_tries = pairs;
 }
 
-few_more : (b : Bool) (xs : List PartingRace) (x : PartingRace) (most : ℕ) → length xs < most → length (if b then xs ++ x ∷ [] else xs) ≤ most
-few_more true xs x most lt = omega (arith, lt, length_push xs)
-  where
-    length_push : (ys : List PartingRace) → length (ys ++ x ∷ []) ≡ length ys + 1
-    length_push [] = refl
-    length_push (y ∷ ys) = omega (arith, length_push ys)
-few_more false xs x most lt = omega (arith, lt)
+few_more : (b : Bool) (xs : List PartingRace) (x : PartingRace) (most : ℕ) → length (numbered_causes xs) ≤ most → length (numbered_causes (xs ++ x ∷ [])) ≤ most → length (numbered_causes (if b then xs ++ x ∷ [] else xs)) ≤ most
+few_more true xs x most few more = more
+few_more false xs x most few more = few
 
 -- one race more, if there was memory for it
 pub with_more : (code : Compiled) (limits : Limits) (bounds : RaceBounds) (found : Found) (c d : Causes) (b : Bool) (x : PartingRace) → AreCauses code limits bounds found c → IsShownCause code limits x
-    → AreNewBeside found.races.items c.causes.items x → length c.causes.items < bounds.races → d.causes.items ≡ (if b then c.causes.items ++ x ∷ [] else c.causes.items)
-    → (d.cut ≡ Some Races → length d.causes.items ≡ bounds.races) → (d.cut ≡ Some Pairs → d.runs ≡ 0) → AreCauses code limits bounds found d
-with_more code limits bounds found c d b x are shown new lt same races pairs = record {
+    → AreNewBeside found.races.items c.causes.items x → length (numbered_causes (c.causes.items ++ x ∷ [])) ≤ bounds.races → d.causes.items ≡ (if b then c.causes.items ++ x ∷ [] else c.causes.items)
+    → (d.cut ≡ Some Races → length (numbered_causes d.causes.items) ≡ bounds.races) → (d.cut ≡ Some Pairs → d.runs ≡ 0) → AreCauses code limits bounds found d
+with_more code limits bounds found c d b x are shown new room same races pairs = record {
   shown = subst (λ (xs : List PartingRace). All (IsShownCause code limits) xs) (sym same) (kept_all (IsShownCause code limits) b c.causes.items x are.shown shown);
   distinct = subst (λ (xs : List PartingRace). AllPairs AreOtherCauses xs) (sym same) (kept_pairs AreOtherCauses b c.causes.items x are.distinct new.1);
   beside = subst (λ (xs : List PartingRace). All (λ cause. All (λ race. AreOthers race cause.race) found.races.items) xs) (sym same)
       (kept_all (λ cause. All (λ race. AreOthers race cause.race) found.races.items) b c.causes.items x are.beside new.0);
-  few = subst (λ (xs : List PartingRace). length xs ≤ bounds.races) (sym same) (few_more b c.causes.items x bounds.races lt);
+  few = subst (λ (xs : List PartingRace). length (numbered_causes xs) ≤ bounds.races) (sym same) (few_more b c.causes.items x bounds.races are.few room);
   full_races = races;
   full_tries = pairs;
 }

@@ -1,6 +1,6 @@
 -- The races that part texts.
-use Rattle.std.specs.Prelude.{◌≡◌, ◌≤◌, ◌<◌, ◌+◌, List, length, Some, None}
-use Rattle.std.specs.List.{All, AllPairs}
+use Rattle.std.specs.Prelude.{◌≡◌, ◌≤◌, ◌<◌, ◌+◌, Bool, not, List, length, Some, None}
+use Rattle.std.specs.List.{All, AllPairs, filter}
 use Rattle.model.specs.declared.entry.Entry.{Entry}
 use Rattle.model.specs.declared.end.Limits.{Limits}
 use Rattle.design.specs.Compiled.{Compiled, design_of}
@@ -17,6 +17,7 @@ use Rattle.conflicts.specs.declared.bounds.Bound.TheVariants.{Races, Pairs}
 use Rattle.races.specs.declared.told.Found.{Found}
 use Rattle.races.specs.declared.told.Race.{Race}
 use Rattle.conflicts.specs.declared.bounds.RaceBounds.{RaceBounds}
+use Rattle.races.specs.LineOrders.{is_line_order}
 use Rattle.races.specs.Races.{AreOfSame, AreOthers, IsShownRace}
 
 -- two runs have a pair in both orders
@@ -52,14 +53,22 @@ IsNewCause pair cause = cause.race.site ≡ pair.site → AreOfSame cause.race.f
 abbrev pub AreNewBeside : List Race → List PartingRace → PartingRace → Type 0
 AreNewBeside races causes cause = All (λ race. AreOthers race cause.race) races × All (λ other. AreOtherCauses other cause) causes
 
+-- whether a race has a number when it is told: it isn't for the order of lines
+abbrev pub is_numbered : PartingRace → Bool
+is_numbered cause = not (is_line_order cause.race.site)
+
+-- those that have a number
+abbrev pub numbered_causes : List PartingRace → List PartingRace
+numbered_causes causes = filter is_numbered causes
+
 -- Races that part texts: each is one. No two are for one site and of the same two processes, and none is of those of a race that was found
--- before. They are no more than may be told, and a bound cuts their list only where it is met.
+-- before. Those that have a number are no more than may be told, and a bound cuts their list only where it is met.
 pub record AreCauses (code : Compiled) (limits : Limits) (bounds : RaceBounds) (found : Found) (c : Causes) : Type 0 where
   pub shown : All (IsShownCause code limits) c.causes.items
   pub distinct : AllPairs AreOtherCauses c.causes.items
   pub beside : All (λ cause. All (λ race. AreOthers race cause.race) found.races.items) c.causes.items
-  pub few : length c.causes.items ≤ bounds.races
-  pub full_races : c.cut ≡ Some Races → length c.causes.items ≡ bounds.races
+  pub few : length (numbered_causes c.causes.items) ≤ bounds.races
+  pub full_races : c.cut ≡ Some Races → length (numbered_causes c.causes.items) ≡ bounds.races
   pub full_tries : c.cut ≡ Some Pairs → c.runs ≡ 0
 
 -- unless the list was cut, a race was found, or a text is left for which none was

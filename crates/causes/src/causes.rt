@@ -1,8 +1,9 @@
 //! The races that part texts, from where their runs part.
-ghost use Rattle.std.specs.Prelude.{◌≡◌, ◌<◌, ◌⊎◌, [], false, length, IfOk, IfSome, IsTrue, None};
+ghost use Rattle.std.specs.Prelude.{◌≡◌, ◌<◌, ◌≤◌, ◌⊎◌, ◌∷◌, ◌++◌, [], false, length, IfOk, IfSome, IsTrue, None};
 ghost use Rattle.std.specs.List.{All};
 ghost use Rattle.sharing.specs.Parts.{Extends};
-ghost use Rattle.causes.specs.Causes.{AddsCauses, AreCauses, AreNewBeside, HasAnswer, IsNewCause, IsShownCause, IsStill};
+ghost use Rattle.causes.specs.declared.parting_race.PartingRace.{PartingRace};
+ghost use Rattle.causes.specs.Causes.{AddsCauses, AreCauses, AreNewBeside, HasAnswer, IsNewCause, IsShownCause, IsStill, numbered_causes};
 ghost use Rattle.conflicts.specs.RunEndings.{HasTimeLimit};
 ghost use Rattle.races.specs.declared.told.Found.{Found};
 ghost use Rattle.model.specs.declared.end.Limits.{Limits};
@@ -18,7 +19,7 @@ use explore::Shown;
 use model::end::{End, Limits};
 use model::entry::Entry;
 use progress::Progress;
-use races::{Found, Race, is_of, is_told};
+use races::{Found, Race, is_line_order, is_of, is_told, numbers_of};
 use std::alloc::{AllocError, Global};
 
 // How many entries a run may take more than twice those of the longer of two journals.
@@ -81,6 +82,30 @@ fn is_among(causes: &[PartingRace], pair: Pair) -> bool
     false
 }
 
+/// How many of some races have a number when they are told.
+pub fn numbered_count(causes: &[PartingRace]) -> usize
+    ensures value { result ≡ length (numbered_causes causes.now) }
+    ensures few { result ≤ length causes.now }
+{
+    let mut count: usize = 0;
+    for place in 0..causes.len() {
+        count += numbers_of(&causes[place].race);
+    }
+    count
+}
+
+// Whether there is no room for a race beside others, where so many may have a number.
+fn is_full(causes: &[PartingRace], race: &Race, most: usize) -> bool
+    requires few { length (numbered_causes causes.now) ≤ most }
+    ensures full { IsTrue result → length (numbered_causes causes.now) ≡ most }
+    ensures room { result ≡ false → (cause : PartingRace) → cause.race ≡ race.now → length (numbered_causes (causes.now ++ cause ∷ [])) ≤ most }
+{
+    if is_line_order(race.site) {
+        return false;
+    }
+    numbered_count(causes) >= most
+}
+
 // Whether the text and the end of a run are those of a text.
 fn is_text_of(text: &Shown<Entry, End>, race: &Race) -> bool {
     race.exchanged.end == text.end && race.exchanged.lines.as_bytes() == text.text.as_slice()
@@ -140,7 +165,7 @@ impl Causes {
         cause
     }
 
-    // Keeps a race, if there is room for it.
+    // Keeps a race, if there is room for it. One for the order of lines takes none.
     fn keep(&mut self, search: CauseSearch<'_>, cause: PartingRace)
         requires are { AreCauses search.design.now search.limits search.bounds search.found.now self.old }
         requires whole { self.old.cut ≡ None }
@@ -150,7 +175,7 @@ impl Causes {
         ensures more { Extends self.old.causes.items self.new.causes.items }
         ensures answered { HasAnswer search.entry.found.now self.new }
     {
-        if self.causes.len() >= search.bounds.races {
+        if is_full(self.causes.as_slice(), &cause.race, search.bounds.races) {
             self.cut = Some(Bound::Races);
             return;
         }

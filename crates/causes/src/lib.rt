@@ -16,5 +16,5 @@ mod parting;
 mod parting_race;
 mod track;
 
-pub use causes::{CauseSearch, Causes};
+pub use causes::{CauseSearch, Causes, numbered_count};
 pub use parting_race::PartingRace;

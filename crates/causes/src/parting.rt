@@ -33,7 +33,7 @@ const PAIR_BOUNDS: RaceBounds = RaceBounds {
 
 // Two runs: what the first one shows, the journal of the other one, and a run that shows the same as the first, which is followed where it is left.
 #[derive(Clone, Copy)]
-struct Parting<'a> {
+struct PartedRuns<'a> {
     setting: HybridSetting<'a>,
     first: &'a RunRecord,
     other: &'a [Entry],
@@ -99,7 +99,7 @@ fn middle(low: usize, high: usize) -> usize {
     low.saturating_add(high.saturating_sub(low) / 2)
 }
 
-impl<'a> Parting<'a> {
+impl<'a> PartedRuns<'a> {
     // A run that is led so, and then goes along.
     fn made<P: Progress>(
         self,
@@ -265,7 +265,7 @@ impl<'a> Parting<'a> {
         let Some(base) = traced(self.setting, led.journal.as_slice(), making)? else {
             return Ok(nothing());
         };
-        let along = Parting {
+        let along = PartedRuns {
             setting: self.setting,
             first: self.first,
             other: self.other,
@@ -381,7 +381,7 @@ fn confirmed(
 
 // Goes on in rounds, from a run that shows the same as the first one and takes so many first entries of the other journal.
 fn in_rounds<P: Progress>(
-    begun: Parting<'_>,
+    begun: PartedRuns<'_>,
     transitions: Vec<RunTransition>,
     from: usize,
     making: &mut Making<'_, P>,
@@ -391,7 +391,7 @@ fn in_rounds<P: Progress>(
     let mut along = transitions;
     let mut from = from;
     for _ in 0..MOST_ROUNDS {
-        let parting = Parting {
+        let parting = PartedRuns {
             setting: begun.setting,
             first: begun.first,
             other: begun.other,
@@ -433,7 +433,7 @@ pub(crate) fn find_cause<P: Progress>(
     if !are_same(first.journal.as_slice(), one) {
         return Ok(None);
     }
-    let parting = Parting {
+    let parting = PartedRuns {
         setting,
         first: &first,
         other,

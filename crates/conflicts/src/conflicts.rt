@@ -158,10 +158,24 @@ impl Conflicts {
     }
 }
 
+/// What conflicts are for: what a run comes to, by registers or by its end, an order of strobes or of updates, or the order of lines.
+#[derive(Clone, Copy, PartialEq, Eq)]
+pub enum SiteKind {
+    Outcome,
+    Order,
+    Lines,
+}
+
+/// The kind of a site.
+pub fn kind_of(site: Site) -> SiteKind {
+    match site {
+        Site::Register(_) | Site::Finishing => SiteKind::Outcome,
+        Site::Strobing | Site::Updating => SiteKind::Order,
+        Site::Printing => SiteKind::Lines,
+    }
+}
+
 /// Whether a site is an order of lines or of updates.
 pub fn is_order(site: Site) -> bool {
-    match site {
-        Site::Printing | Site::Strobing | Site::Updating => true,
-        Site::Register(_) | Site::Finishing => false,
-    }
+    kind_of(site) != SiteKind::Outcome
 }

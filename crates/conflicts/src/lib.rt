@@ -30,7 +30,7 @@ mod transitions;
 
 pub use both_orders::has_both_orders;
 pub use bounds::{Bound, RaceBounds};
-pub use conflicts::{Conflict, Conflicts, Turning, is_order};
+pub use conflicts::{Conflict, Conflicts, SiteKind, Turning, is_order, kind_of};
 pub use depend::PriorSteps;
 pub use journaled_machine::{JournaledMachine, repeat};
 pub use recorder::{RunRecorder, record_run, record_two};

@@ -38,7 +38,6 @@ side_fault code first second side (running.Replay fault) h = h
 side_fault code first second side running.Memory h = tt
 
 pub untold_fault : (code : Compiled) (journal : List Entry) (f : ExplainFault) → IsFaultOfEntries code journal f → IsRunFaultOf code journal (untold f)
-untold_fault code journal (telling.Source fault) h = tt
 untold_fault code journal (telling.Read fault) h = tt
 untold_fault code journal (telling.Replay fault) h = h
 untold_fault code journal telling.CannotWrite h = tt

@@ -29,7 +29,6 @@ IsRunFaultOf code journal running.Memory = Unit {0}
 
 -- why the line of an entry isn't put
 abbrev pub untold : ExplainFault → RunFault
-untold (telling.Source fault) = running.Memory
 untold (telling.Read fault) = running.Memory
 untold (telling.Replay fault) = running.Replay fault
 untold telling.CannotWrite = running.Memory

@@ -8,13 +8,13 @@ ghost use Rattle.design.specs.Compiled.{design_of};
 
 use crate::fault::{CompareFault, JournalSide, RunFault};
 use crate::following::differing_values;
-use crate::lines::{has_any, push_ends, push_lines, push_stop, push_title, push_values};
+use crate::lines::{push_ends, push_lines, push_stop, push_title, push_values};
 use crate::parting::common_length;
 use crate::summary::{RunSummary, summary};
 use crate::times::compared_times;
 use crate::value_difference::ValueDifference;
 use design::Design;
-use explain::{EntryStyle, SourceNames, push_entry_line};
+use explain::{EntryStyle, SourceNames, has_any, push_entry_line};
 use locations::processes;
 use model::entry::Entry;
 use progress::Progress;

@@ -43,16 +43,15 @@ pub(crate) enum RunFault {
 }
 
 impl RunFault {
-    /// Why the line of an entry isn't put. No source and no text of a journal is read for it.
+    /// Why the line of an entry isn't put. No text of a journal is read for it.
     pub(crate) fn untold(fault: ExplainFault) -> RunFault
         ensures { result ≡ untold fault }
     {
         match fault {
             ExplainFault::Replay(fault) => RunFault::Replay(fault),
-            ExplainFault::Source(_)
-            | ExplainFault::Read(_)
-            | ExplainFault::CannotWrite
-            | ExplainFault::Memory => RunFault::Memory,
+            ExplainFault::Read(_) | ExplainFault::CannotWrite | ExplainFault::Memory => {
+                RunFault::Memory
+            }
         }
     }
 

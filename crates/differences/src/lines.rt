@@ -1,12 +1,11 @@
 //! The lines on two journals.
 
 ghost use Rattle.std.specs.Prelude.{◌≡◌, ◌++◌, IfOk, OnOk};
-ghost use Rattle.model.specs.Runs.{has_any};
 ghost use Rattle.differences.specs.ComparedLines.{PutsLinesText, different_text, ends_text, row_lines, row_text, stop_head, earlier_end_text, title_end, parting_title_text, values_text, values_title};
 
 use crate::summary::RunSummary;
 use crate::value_difference::ValueDifference;
-use explain::{SourceNames, push_labelled, push_register};
+use explain::{SourceNames, has_any, push_labelled, push_register};
 use literals::push_value;
 use std::alloc::AllocError;
 use verdict::{Difference, first_difference, push_line};
@@ -136,16 +135,6 @@ pub(crate) fn push_values(
 {
     text.extend_from_slice(values_title(has_any(rows)).as_bytes())?;
     push_rows(text, names, rows)
-}
-
-/// Whether there is something in a list.
-pub(crate) fn has_any<T>(list: &[T]) -> bool
-    ensures { result ≡ has_any list.now }
-{
-    match list {
-        [] => false,
-        _ => true,
-    }
 }
 
 // Puts which of two runs ends earlier behind a text, and when.

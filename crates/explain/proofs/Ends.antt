@@ -5,21 +5,19 @@ use Rattle.std.specs.Io.KnownBytes.{Keeps}
 use Rattle.model.specs.declared.entry.Entry.{Entry}
 use Rattle.model.specs.Runs.{Effect, run, IsLawful}
 use Rattle.design.specs.Compiled.{Compiled, design_of}
-use Rattle.frontend.specs.declared.source.SourceFault.{SourceFault}
 use Rattle.journal.specs.declared.fault.ReadFault.{ReadFault}
 use Rattle.replay.specs.declared.fault.ReplayFault.{ReplayFault}
 use Rattle.replay.specs.JournalFaults.{IsFaultOf}
 use Rattle.replay.specs.ReplayBytes.{AreRead, IsReplayFault}
 use Rattle.explain.specs.declared.failure.ExplainFault.{ExplainFault}
-use Rattle.explain.specs.declared.failure.ExplainFault.TheVariants.{Source, Read, Replay, CannotWrite, Memory}
+use Rattle.explain.specs.declared.failure.ExplainFault.TheVariants.{Read, Replay, CannotWrite, Memory}
 use Rattle.explain.specs.declared.telling.Presentation.{Presentation}
 use Rattle.explain.specs.declared.telling.ExplanationOptions.{ExplanationOptions}
 use Rattle.explain.specs.ExplainedText.{TellsAll, TellsFault, IsTelling, Explains, ExplainsFault, ExplainsText, ExplainsTextFault}
-use Rattle.explain.specs.Explained.{IsLawfulJournalText, IsOfEntries, IsNoFault, IfExplainSource, IfExplainRead, IfExplainReplay, UnlessExplainBegun}
+use Rattle.explain.specs.Explained.{IsLawfulJournalText, IsOfEntries, IsNoFault, IfExplainRead, IfExplainReplay, UnlessExplainBegun}
 
 -- want of memory and a failed write are no fault of a journal
 pub no_replay : (fault : ExplainFault) (P : ReplayFault → Type 0) → IsNoFault fault → IfExplainReplay {X = Unit {0}} (Err fault) P
-no_replay (Source f) P is = tt
 no_replay (Read f) P is = tt
 no_replay (Replay f) P is = absurd is
 no_replay CannotWrite P is = tt
@@ -31,15 +29,13 @@ no_replay_if (Err fault) P is = no_replay fault P is
 
 -- nor is any other fault that is none
 pub no_replay_but : (fault other : ExplainFault) (P : ReplayFault → Type 0) → fault ≡ other → ((f : ReplayFault) → fault ≡ Replay f → ⊥) → IfExplainReplay {X = Unit {0}} (Err other) P
-no_replay_but fault (Source f) P same other_than = tt
 no_replay_but fault (Read f) P same other_than = tt
 no_replay_but fault (Replay f) P same other_than = absurd (other_than f same)
 no_replay_but fault CannotWrite P same other_than = tt
 no_replay_but fault Memory P same other_than = tt
 
--- and they come once source and journal are read
+-- and they come once a journal is read
 pub of_entries : (fault : ExplainFault) → IsNoFault fault → IsOfEntries fault
-of_entries (Source f) is = absurd is
 of_entries (Read f) is = absurd is
 of_entries (Replay f) is = tt
 of_entries CannotWrite is = tt
@@ -49,18 +45,9 @@ pub of_entries_if : {X : Type 0} (r : Result X ExplainFault) → IfErr r IsNoFau
 of_entries_if (Ok x) is = tt
 of_entries_if (Err fault) is = of_entries fault is
 
--- once source and journal are read, neither has a fault
-pub no_source_if : {X : Type 0} (r : Result X ExplainFault) (P : SourceFault → Type 0) → IfErr r IsOfEntries → IfExplainSource r P
-no_source_if (Ok x) P is = tt
-no_source_if (Err (Source f)) P is = absurd is
-no_source_if (Err (Read f)) P is = tt
-no_source_if (Err (Replay f)) P is = tt
-no_source_if (Err CannotWrite) P is = tt
-no_source_if (Err Memory) P is = tt
-
+-- once a journal is read, it has no fault
 pub no_read_if : {X : Type 0} (r : Result X ExplainFault) (P : ReadFault → Type 0) → IfErr r IsOfEntries → IfExplainRead r P
 no_read_if (Ok x) P is = tt
-no_read_if (Err (Source f)) P is = tt
 no_read_if (Err (Read f)) P is = absurd is
 no_read_if (Err (Replay f)) P is = tt
 no_read_if (Err CannotWrite) P is = tt
@@ -68,7 +55,6 @@ no_read_if (Err Memory) P is = tt
 
 pub begun_if : {X : Type 0} (r : Result X ExplainFault) (P : Type 0) → IfErr r IsOfEntries → UnlessExplainBegun r P
 begun_if (Ok x) P is = tt
-begun_if (Err (Source f)) P is = absurd is
 begun_if (Err (Read f)) P is = absurd is
 begun_if (Err (Replay f)) P is = tt
 begun_if (Err CannotWrite) P is = tt
@@ -80,61 +66,58 @@ keeps None = tt
 keeps (Some xs) = refl
 
 -- by these names and this presentation
-pub explains_if : {X E : Type 0} (r : Result X E) (source : List ℕ) (code : Compiled) (presentation : Presentation) (journal : List Entry) (old new : Option (List ℕ)) (t : ExplanationOptions)
-    → IsTelling source code presentation t → OnOk r (TellsAll t journal old new) → OnOk r (Explains source code presentation journal old new)
-explains_if (Ok u) source code presentation journal old new t is tells = record { telling = t; is_telling = is; tells = tells }
-explains_if (Err e) source code presentation journal old new t is tells = tt
+pub explains_if : {X E : Type 0} (r : Result X E) (source : List ℕ) (code : Compiled) (registers : Option (List ℕ)) (presentation : Presentation) (journal : List Entry) (old new : Option (List ℕ)) (t : ExplanationOptions)
+    → IsTelling source code registers presentation t → OnOk r (TellsAll t journal old new) → OnOk r (Explains source code registers presentation journal old new)
+explains_if (Ok u) source code registers presentation journal old new t is tells = record { telling = t; is_telling = is; tells = tells }
+explains_if (Err e) source code registers presentation journal old new t is tells = tt
 
-pub explains_fault_if : {X : Type 0} (r : Result X ExplainFault) (source : List ℕ) (code : Compiled) (presentation : Presentation) (journal : List Entry) (old new : Option (List ℕ)) (t : ExplanationOptions)
-    → IsTelling source code presentation t → IfExplainReplay r (TellsFault t journal old new) → IfExplainReplay r (ExplainsFault source code presentation journal old new)
-explains_fault_if (Ok u) source code presentation journal old new t is tells = tt
-explains_fault_if (Err (Source f)) source code presentation journal old new t is tells = tt
-explains_fault_if (Err (Read f)) source code presentation journal old new t is tells = tt
-explains_fault_if (Err (Replay f)) source code presentation journal old new t is tells = record { telling = t; is_telling = is; tells = tells }
-explains_fault_if (Err CannotWrite) source code presentation journal old new t is tells = tt
-explains_fault_if (Err Memory) source code presentation journal old new t is tells = tt
+pub explains_fault_if : {X : Type 0} (r : Result X ExplainFault) (source : List ℕ) (code : Compiled) (registers : Option (List ℕ)) (presentation : Presentation) (journal : List Entry) (old new : Option (List ℕ)) (t : ExplanationOptions)
+    → IsTelling source code registers presentation t → IfExplainReplay r (TellsFault t journal old new) → IfExplainReplay r (ExplainsFault source code registers presentation journal old new)
+explains_fault_if (Ok u) source code registers presentation journal old new t is tells = tt
+explains_fault_if (Err (Read f)) source code registers presentation journal old new t is tells = tt
+explains_fault_if (Err (Replay f)) source code registers presentation journal old new t is tells = record { telling = t; is_telling = is; tells = tells }
+explains_fault_if (Err CannotWrite) source code registers presentation journal old new t is tells = tt
+explains_fault_if (Err Memory) source code registers presentation journal old new t is tells = tt
 
 -- on the design of the source
-pub text_if : {X E : Type 0} (r : Result X E) (source : List ℕ) (code : Compiled) (presentation : Presentation) (journal : List Entry) (left old new : Option (List ℕ))
-    → AreRead source left code journal → OnOk r (Explains source code presentation journal old new) → OnOk r (ExplainsText source presentation left old new)
-text_if (Ok u) source code presentation journal left old new read explains = record { design = code; journal = journal; are_read = read; explains = explains }
-text_if (Err e) source code presentation journal left old new read explains = tt
+pub text_if : {X E : Type 0} (r : Result X E) (source : List ℕ) (code : Compiled) (registers : Option (List ℕ)) (presentation : Presentation) (journal : List Entry) (left old new : Option (List ℕ))
+    → AreRead source left code journal → OnOk r (Explains source code registers presentation journal old new) → OnOk r (ExplainsText source code registers presentation left old new)
+text_if (Ok u) source code registers presentation journal left old new read explains = record { journal = journal; are_read = read; explains = explains }
+text_if (Err e) source code registers presentation journal left old new read explains = tt
 
-pub text_fault_if : {X : Type 0} (r : Result X ExplainFault) (source : List ℕ) (code : Compiled) (presentation : Presentation) (journal : List Entry) (left old new : Option (List ℕ))
-    → AreRead source left code journal → IfExplainReplay r (ExplainsFault source code presentation journal old new) → IfExplainReplay r (ExplainsTextFault source presentation left old new)
-text_fault_if (Ok u) source code presentation journal left old new read explains = tt
-text_fault_if (Err (Source f)) source code presentation journal left old new read explains = tt
-text_fault_if (Err (Read f)) source code presentation journal left old new read explains = tt
-text_fault_if (Err (Replay f)) source code presentation journal left old new read explains = record { design = code; journal = journal; are_read = read; explains = explains }
-text_fault_if (Err CannotWrite) source code presentation journal left old new read explains = tt
-text_fault_if (Err Memory) source code presentation journal left old new read explains = tt
+pub text_fault_if : {X : Type 0} (r : Result X ExplainFault) (source : List ℕ) (code : Compiled) (registers : Option (List ℕ)) (presentation : Presentation) (journal : List Entry) (left old new : Option (List ℕ))
+    → AreRead source left code journal → IfExplainReplay r (ExplainsFault source code registers presentation journal old new) → IfExplainReplay r (ExplainsTextFault source code registers presentation left old new)
+text_fault_if (Ok u) source code registers presentation journal left old new read explains = tt
+text_fault_if (Err (Read f)) source code registers presentation journal left old new read explains = tt
+text_fault_if (Err (Replay f)) source code registers presentation journal left old new read explains = record { journal = journal; are_read = read; explains = explains }
+text_fault_if (Err CannotWrite) source code registers presentation journal left old new read explains = tt
+text_fault_if (Err Memory) source code registers presentation journal left old new read explains = tt
 
 -- a journal that is told to its end is lawful
 lawful : (code : Compiled) (journal : List Entry) (e : Effect) → run (design_of code) journal ≡ Some e → IsLawful (design_of code) journal
 lawful code journal e ran = subst (λ (o : Option Effect). IsSome o) (sym ran) refl
 
-pub lawful_if : {X E : Type 0} (r : Result X E) (source : List ℕ) (code : Compiled) (presentation : Presentation) (journal : List Entry) (left old new : Option (List ℕ))
-    → AreRead source left code journal → OnOk r (Explains source code presentation journal old new) → OnOk r (IsLawfulJournalText source left)
-lawful_if (Ok u) source code presentation journal left old new read explains = record {
+pub lawful_if : {X E : Type 0} (r : Result X E) (source : List ℕ) (code : Compiled) (registers : Option (List ℕ)) (presentation : Presentation) (journal : List Entry) (left old new : Option (List ℕ))
+    → AreRead source left code journal → OnOk r (Explains source code registers presentation journal old new) → OnOk r (IsLawfulJournalText source left)
+lawful_if (Ok u) source code registers presentation journal left old new read explains = record {
   design = code;
   journal = journal;
   are_read = read;
   lawful = lawful code journal explains.tells.effect
       (ap (λ (c : Compiled). run (design_of c) journal) (sym explains.is_telling.design_is) ∙ explains.tells.is_run);
 }
-lawful_if (Err e) source code presentation journal left old new read explains = tt
+lawful_if (Err e) source code registers presentation journal left old new read explains = tt
 
 -- a fault that is told is one of the journal
-pub replay_if : {X : Type 0} (r : Result X ExplainFault) (source : List ℕ) (code : Compiled) (presentation : Presentation) (journal : List Entry) (left old new : Option (List ℕ))
-    → AreRead source left code journal → IfExplainReplay r (ExplainsFault source code presentation journal old new) → IfExplainReplay r (IsReplayFault source left)
-replay_if (Ok u) source code presentation journal left old new read explains = tt
-replay_if (Err (Source f)) source code presentation journal left old new read explains = tt
-replay_if (Err (Read f)) source code presentation journal left old new read explains = tt
-replay_if (Err (Replay f)) source code presentation journal left old new read explains = record {
+pub replay_if : {X : Type 0} (r : Result X ExplainFault) (source : List ℕ) (code : Compiled) (registers : Option (List ℕ)) (presentation : Presentation) (journal : List Entry) (left old new : Option (List ℕ))
+    → AreRead source left code journal → IfExplainReplay r (ExplainsFault source code registers presentation journal old new) → IfExplainReplay r (IsReplayFault source left)
+replay_if (Ok u) source code registers presentation journal left old new read explains = tt
+replay_if (Err (Read f)) source code registers presentation journal left old new read explains = tt
+replay_if (Err (Replay f)) source code registers presentation journal left old new read explains = record {
   design = code;
   journal = journal;
   are_read = read;
   is_fault = subst (λ (c : Compiled). IsFaultOf c journal f) explains.is_telling.design_is explains.tells.is_fault;
 }
-replay_if (Err CannotWrite) source code presentation journal left old new read explains = tt
-replay_if (Err Memory) source code presentation journal left old new read explains = tt
+replay_if (Err CannotWrite) source code registers presentation journal left old new read explains = tt
+replay_if (Err Memory) source code registers presentation journal left old new read explains = tt

@@ -140,7 +140,6 @@ stopped_at t journal at old new start now text fault is_fault number state to = 
 pub stopped_if : (t : ExplanationOptions) (journal : List Entry) (at : ℕ) (old new : Standing) (start now : Option (List ℕ)) (text : List ℕ) (fault : ExplainFault)
     → IsFaultOfEntries old.position.code journal fault → IfExplainReplay {X = Unit {0}} (Err fault) (λ f. f.entry ≡ at + 1) → state_at new.position ≡ state_at old.position
     → IsToldTo t journal at old start now text → IfExplainReplay {X = Unit {0}} (Err fault) (IsStoppedAt t journal new start now text)
-stopped_if t journal at old new start now text (failures.Source f) is_fault number state to = tt
 stopped_if t journal at old new start now text (failures.Read f) is_fault number state to = tt
 stopped_if t journal at old new start now text (failures.Replay f) is_fault number state to = stopped_at t journal at old new start now text f is_fault number state to
 stopped_if t journal at old new start now text failures.CannotWrite is_fault number state to = tt
@@ -217,7 +216,6 @@ pub told_fault_if : {X : Type 0} (r : Result X ExplainFault) (fault : ExplainFau
     → IfExplainReplay r (λ of. (fault ≡ failures.Replay of) × Appends now new (text ++ refusal_text t.names (state_at x.position) of))
     → IfExplainReplay {X = Unit {0}} (Err fault) (IsStoppedAt t journal x start now text) → IfExplainReplay r (TellsFault t journal start new)
 told_fault_if (Ok u) fault t journal x start now new text told stop = tt
-told_fault_if (Err (failures.Source f)) fault t journal x start now new text told stop = tt
 told_fault_if (Err (failures.Read f)) fault t journal x start now new text told stop = tt
 told_fault_if (Err (failures.Replay f)) fault t journal x start now new text told stop =
     told_fault t journal x start now new text f told.1 (subst (λ (e : ExplainFault). IfExplainReplay {X = Unit {0}} (Err e) (IsStoppedAt t journal x start now text)) told.0 stop)

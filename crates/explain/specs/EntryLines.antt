@@ -34,14 +34,14 @@ abbrev pub styled_text : SourceNames → Vector → List ℕ
 styled_text names v = value_text names.style.radix v
 
 -- the version of a read, where the style has it
-abbrev pub version_text : Bool → ℕ → List ℕ
-version_text true version = codes " (version " ++ decimal version ++ codes ")"
-version_text false version = []
+abbrev pub read_version_text : Bool → ℕ → List ℕ
+read_version_text true version = codes " (version " ++ decimal version ++ codes ")"
+read_version_text false version = []
 
 -- a register that is read
 abbrev pub reading_text : SourceNames → Reading → List ℕ
 reading_text names r =
-    register_text names r.register ++ codes "=" ++ styled_text names r.value ++ version_text names.style.versions r.version
+    register_text names r.register ++ codes "=" ++ styled_text names r.value ++ read_version_text names.style.versions r.version
 
 -- a change
 abbrev pub change_text : SourceNames → Changed → List ℕ

@@ -3,13 +3,12 @@ use Rattle.std.specs.Prelude.{ℕ, List, Option, Result, Err}
 use Rattle.model.specs.declared.entry.Entry.{Entry}
 use Rattle.model.specs.Runs.{IsLawful}
 use Rattle.design.specs.Compiled.{Compiled, design_of}
-use Rattle.frontend.specs.declared.source.SourceFault.{SourceFault}
 use Rattle.journal.specs.declared.fault.ReadFault.{ReadFault}
 use Rattle.replay.specs.declared.fault.ReplayFault.{ReplayFault}
 use Rattle.replay.specs.ReplayBytes.{AreRead}
 use Rattle.replay.specs.JournalFaults.{IsFaultOf}
 use Rattle.explain.specs.declared.failure.ExplainFault.{ExplainFault}
-use Rattle.explain.specs.declared.failure.ExplainFault.TheVariants.{Source, Read, Replay, CannotWrite, Memory}
+use Rattle.explain.specs.declared.failure.ExplainFault.TheVariants.{Read, Replay, CannotWrite, Memory}
 
 -- The source describes a design, and what was left to read is the text of a journal that is lawful for it.
 pub record IsLawfulJournalText (source : List ℕ) (left : Option (List ℕ)) : Type 0 where
@@ -23,26 +22,19 @@ abbrev pub IsFaultOfEntries : Compiled → List Entry → ExplainFault → Type 
 IsFaultOfEntries code entries (Replay fault) = IsFaultOf code entries fault
 IsFaultOfEntries code entries fault = Unit {0}
 
--- a fault that comes once source and journal are read
+-- a fault that comes once a journal is read
 abbrev pub IsOfEntries : ExplainFault → Type 0
-IsOfEntries (Source fault) = ⊥
 IsOfEntries (Read fault) = ⊥
 IsOfEntries (Replay fault) = Unit {0}
 IsOfEntries CannotWrite = Unit {0}
 IsOfEntries Memory = Unit {0}
 
--- no fault of source or journal: a write failed, or memory was refused
+-- no fault of a journal: a write failed, or memory was refused
 abbrev pub IsNoFault : ExplainFault → Type 0
-IsNoFault (Source fault) = ⊥
 IsNoFault (Read fault) = ⊥
 IsNoFault (Replay fault) = ⊥
 IsNoFault CannotWrite = Unit {0}
 IsNoFault Memory = Unit {0}
-
--- P of the fault of the source, where one is answered
-abbrev pub IfExplainSource : {X : Type 0} → Result X ExplainFault → (SourceFault → Type 0) → Type 0
-IfExplainSource (Err (Source fault)) P = P fault
-IfExplainSource result P = Unit {0}
 
 -- P of the fault of reading, where one is answered
 abbrev pub IfExplainRead : {X : Type 0} → Result X ExplainFault → (ReadFault → Type 0) → Type 0
@@ -54,8 +46,7 @@ abbrev pub IfExplainReplay : {X : Type 0} → Result X ExplainFault → (ReplayF
 IfExplainReplay (Err (Replay fault)) P = P fault
 IfExplainReplay result P = Unit {0}
 
--- P, where the answer is a fault of the source or of reading
+-- P, where the answer is a fault of reading
 abbrev pub UnlessExplainBegun : {X : Type 0} → Result X ExplainFault → Type 0 → Type 0
-UnlessExplainBegun (Err (Source fault)) P = P
 UnlessExplainBegun (Err (Read fault)) P = P
 UnlessExplainBegun result P = Unit {0}

@@ -14,6 +14,7 @@ use Rattle.explain.specs.declared.phrases.EntryStyle.{EntryStyle}
 use Rattle.explain.specs.declared.telling.Presentation.{Presentation}
 use Rattle.steps.specs.Accounts.{Account, IsAccountOf}
 use Rattle.explain.specs.EntryLines.{entry_account_text}
+use Rattle.explain.specs.Wanted.{is_wanted, wanted_registers}
 use Rattle.explain.specs.ExplainedEnd.{IsEndText, refusal_text}
 
 -- the design that is told
@@ -33,9 +34,13 @@ abbrev pub shown_text : Bool → List ℕ → List ℕ
 shown_text true line = line
 shown_text false line = []
 
--- the line of an entry, where the presentation has it
+-- whether an entry with this number is told: the presentation has it, and it has to do with the registers that are asked for, if any are
+abbrev pub is_told : ExplanationOptions → ℕ → Account → Bool
+is_told t number a = has_entry t.presentation number && is_wanted (wanted_registers t.registers) a
+
+-- the line of an entry, where it is told
 abbrev pub told_text : ExplanationOptions → ℕ → Entry → Account → Bool → List ℕ
-told_text t number entry a finishes = shown_text (has_entry t.presentation number) (entry_account_text t.names number entry a finishes)
+told_text t number entry a finishes = shown_text (is_told t number a) (entry_account_text t.names number entry a finishes)
 
 -- This is told of the entry at a place of a journal: by what comes of its step behind those before it.
 pub record IsExplainedEntry (t : ExplanationOptions) (journal : List Entry) (at : ℕ) (text : List ℕ) : Type 0 where
@@ -75,36 +80,35 @@ pub record TellsFault (t : ExplanationOptions) (journal : List Entry) (old new :
   pub are_lines : AreEntryTexts t journal before lines
   pub grown : Appends old new (lines ++ refusal_text t.names effect.state fault)
 
--- what is told is of this design, by the processes of its source, and of this presentation
-pub record IsTelling (source : List ℕ) (code : Compiled) (presentation : Presentation) (t : ExplanationOptions) : Type 0 where
+-- what is told is of this design, by the processes of its source, of these registers alone, if any are asked for, and of this presentation
+pub record IsTelling (source : List ℕ) (code : Compiled) (registers : Option (List ℕ)) (presentation : Presentation) (t : ExplanationOptions) : Type 0 where
   pub source_is : t.names.source.now ≡ source
   pub design_is : t.names.design.now ≡ code
   pub are_processes : AreProcesses source t.names.processes.now
+  pub registers_are : wanted_registers t.registers ≡ registers
   pub presentation_is : t.presentation ≡ presentation
   pub style_is : t.names.style ≡ presentation.style
 
 -- so a journal was told to its end
-pub record Explains (source : List ℕ) (code : Compiled) (presentation : Presentation) (journal : List Entry) (old new : Option (List ℕ)) : Type 0 where
+pub record Explains (source : List ℕ) (code : Compiled) (registers : Option (List ℕ)) (presentation : Presentation) (journal : List Entry) (old new : Option (List ℕ)) : Type 0 where
   pub telling : ExplanationOptions
-  pub is_telling : IsTelling source code presentation telling
+  pub is_telling : IsTelling source code registers presentation telling
   pub tells : TellsAll telling journal old new
 
 -- so it was told up to its fault
-pub record ExplainsFault (source : List ℕ) (code : Compiled) (presentation : Presentation) (journal : List Entry) (old new : Option (List ℕ)) (fault : ReplayFault) : Type 0 where
+pub record ExplainsFault (source : List ℕ) (code : Compiled) (registers : Option (List ℕ)) (presentation : Presentation) (journal : List Entry) (old new : Option (List ℕ)) (fault : ReplayFault) : Type 0 where
   pub telling : ExplanationOptions
-  pub is_telling : IsTelling source code presentation telling
+  pub is_telling : IsTelling source code registers presentation telling
   pub tells : TellsFault telling journal old new fault
 
--- the journal that was left to read was told to its end, on the design of the source
-pub record ExplainsText (source : List ℕ) (presentation : Presentation) (left old new : Option (List ℕ)) : Type 0 where
-  pub design : Compiled
+-- the journal that was left to read was told to its end, on this design of the source
+pub record ExplainsText (source : List ℕ) (design : Compiled) (registers : Option (List ℕ)) (presentation : Presentation) (left old new : Option (List ℕ)) : Type 0 where
   pub journal : List Entry
   pub are_read : AreRead source left design journal
-  pub explains : Explains source design presentation journal old new
+  pub explains : Explains source design registers presentation journal old new
 
--- the journal that was left to read was told up to its fault, on the design of the source
-pub record ExplainsTextFault (source : List ℕ) (presentation : Presentation) (left old new : Option (List ℕ)) (fault : ReplayFault) : Type 0 where
-  pub design : Compiled
+-- the journal that was left to read was told up to its fault, on this design of the source
+pub record ExplainsTextFault (source : List ℕ) (design : Compiled) (registers : Option (List ℕ)) (presentation : Presentation) (left old new : Option (List ℕ)) (fault : ReplayFault) : Type 0 where
   pub journal : List Entry
   pub are_read : AreRead source left design journal
-  pub explains : ExplainsFault source design presentation journal old new fault
+  pub explains : ExplainsFault source design registers presentation journal old new fault

@@ -1,14 +1,11 @@
 //! Why a journal isn't explained.
 
-use frontend::SourceFault;
 use journal::ReadFault;
 use replay::ReplayFault;
 
 /// Why a journal isn't explained to its end.
 #[derive(Drop)]
 pub enum ExplainFault {
-    /// The source describes no design.
-    Source(SourceFault),
     /// No journal was read.
     Read(ReadFault),
     /// The journal isn't lawful, or can't be taken to its end.

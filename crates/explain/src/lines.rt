@@ -4,7 +4,7 @@ ghost use Rattle.std.specs.Prelude.{◌≡◌, ◌++◌, OnOk, codes};
 ghost use Rattle.model.specs.Runs.{has_any};
 ghost use Rattle.explain.specs.Phrases.{quoted_text, register_text};
 ghost use Rattle.steps.specs.Accounts.{account_of};
-ghost use Rattle.explain.specs.EntryLines.{assignment_text, change_text, actor_text, entry_account_text, finish_text, lead, list_text, delimiter, parts_text, printed_text, reading_text, region_text, styled_text, update_text, version_text};
+ghost use Rattle.explain.specs.EntryLines.{assignment_text, change_text, actor_text, entry_account_text, finish_text, lead, list_text, delimiter, parts_text, printed_text, reading_text, region_text, styled_text, update_text, read_version_text};
 
 use crate::phrases::{
     SourceNames, push_labelled, push_number, push_process, push_quoted, push_register,
@@ -55,7 +55,7 @@ fn push_valued(
 
 // Puts the version of a read behind a text, in parentheses, where the style has it.
 fn push_version(text: &mut Vec<u8>, shown: bool, version: u64) -> Result<(), AllocError>
-    ensures { OnOk result (text.new.items ≡ text.old.items ++ version_text shown version) }
+    ensures { OnOk result (text.new.items ≡ text.old.items ++ read_version_text shown version) }
 {
     if !shown {
         return Ok(());
@@ -193,8 +193,8 @@ fn push_actor(
     }
 }
 
-// Whether there is something in a list.
-fn has_any<T>(list: &[T]) -> bool
+/// Whether there is something in a list.
+pub fn has_any<T>(list: &[T]) -> bool
     ensures { result ≡ has_any list.now }
 {
     match list {

@@ -1,6 +1,6 @@
 -- What lawful orders say of the journals that are shown.
-use Rattle.std.proofs.Common.{◌≡◌, ℕ, ◌≤◌, List, length, map}
-use Rattle.std.specs.List.{All, Any}
+use Rattle.std.proofs.Common.{◌≡◌, ℕ, List}
+use Rattle.std.specs.List.{All}
 use Rattle.std.proofs.lemmas.List.Elements.{All-weaker}
 use Rattle.model.specs.declared.entry.Entry.{Entry}
 use Rattle.model.specs.declared.end.Limits.{Limits}
@@ -12,7 +12,7 @@ use Rattle.explore.specs.Search.{IsShown}
 use Rattle.looseruns.specs.ObservedJournals.{Observer, SeenEnd, IsObservedText}
 use Rattle.looseruns.proofs.LooseCovering.{any_of_map}
 use Rattle.loosejournals.specs.FoundJournals.{IsJournalOf, IsObservedJournalOf}
-use Rattle.lawful.specs.Journals.{HasLawfulJournal, AreAmong, texts_and_ends}
+use Rattle.lawful.specs.Journals.{HasLawfulJournal, IsTextAmong, texts_and_ends}
 
 pub are_lawful : (code : Compiled) (limits : Limits) (shown : List (Shown Entry End)) → All (HasLawfulJournal (IsJournalOf code limits)) shown → All (λ (s : Shown Entry End). IsLawfulText (design_of code) limits s.moves.items s.text.items s.end) shown
 are_lawful code limits shown journals =
@@ -31,6 +31,6 @@ are_observed_within code limits observe shown journals =
     All-weaker (HasLawfulJournal (IsObservedJournalOf code limits observe)) (λ (s : Shown Entry SeenEnd). IsWithinLimits limits s.moves.items) (λ s journal. journal.few) shown journals
 
 -- what is among the texts and the ends that are shown is shown
-pub shown_among : {Move End : Type 0} (shown : List (Shown Move End)) (text : List ℕ) (end : End) → AreAmong (texts_and_ends shown) text end → IsShown shown text end
+pub shown_among : {Move End : Type 0} (shown : List (Shown Move End)) (text : List ℕ) (end : End) → IsTextAmong (texts_and_ends shown) text end → IsShown shown text end
 shown_among {Move} {End} shown text end there =
     any_of_map (λ (s : Shown Move End). (s.text.items, s.end)) (λ (pair : List ℕ × End). (pair.0 ≡ text) × (pair.1 ≡ end)) shown there

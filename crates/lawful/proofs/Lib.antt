@@ -8,7 +8,6 @@ pub mod Remade
 pub mod ByParts
 pub mod ShownLawfully
 pub mod LawfulTexts
-pub mod ToldTexts
 pub mod FoundOrders
 pub mod EndlessRuns
 pub mod ObservedWays

@@ -1,32 +1,25 @@
 -- The ways from a node before an observer are those of a search of observed runs.
-use Rattle.std.proofs.Common.{◌≡◌, ◌≢◌, ℕ, true, List, [], ◌++◌, refl, sym, ◌∙◌, subst}
+use Rattle.std.proofs.Common.{ℕ, true, List, refl}
 use Rattle.std.specs.List.{All}
 use Rattle.std.proofs.lemmas.List.Elements.{All-weaker}
 use Rattle.model.specs.declared.end.Limits.{Limits}
-use Rattle.model.specs.declared.end.End.{End}
-use Rattle.model.specs.States.{State}
-use Rattle.model.specs.Runs.{Effect}
-use Rattle.model.specs.Texts.{EndsHere}
 use Rattle.design.specs.Compiled.{Compiled, design_of}
 use Rattle.regions.specs.Machine.{state_at}
 use Rattle.explore.specs.declared.Successor.{Successor}
 use Rattle.explore.specs.declared.EndedPath.{EndedPath}
-use Rattle.explore.specs.Search.{IsSuccessor, IsEndedPath, IsCovered, IsReached, IsEndless}
+use Rattle.explore.specs.Search.{IsSuccessor, IsEndedPath, IsCovered}
 use Rattle.loose.specs.declared.transition.LooseTransition.{LooseTransition}
-use Rattle.loose.specs.Loose.{AlikeIn}
-use Rattle.looseruns.specs.LooseRuns.{ComesOfMoves, StandsLoosely}
 use Rattle.looseruns.specs.ObservedJournals.{Observer, SeenEnd}
 use Rattle.looseruns.specs.ObservedMoves.{SeesAlike}
-use Rattle.looseruns.specs.ObservedRuns.{ComesObserved, StandsObserved}
+use Rattle.looseruns.specs.ObservedRuns.{StandsObserved}
 use Rattle.looseruns.specs.ObservedEnding.{SeesOneFinish}
-use Rattle.looseruns.proofs.ObservedParts.{observed_comes_plainly, plainly_comes_observed}
 use Rattle.looseruns.proofs.ObservedGoing.{observed_moves_lead_to_next, observed_moves_lead_to_end}
 use Rattle.looseruns.proofs.ObservedEnding.{covering_to_finish_is_covered}
 use Rattle.observers.specs.declared.observing.Observing.{Observing}
 use Rattle.observers.specs.declared.observing.Observing.TheVariants.{Lines, Registers}
 use Rattle.observers.specs.Observers.{observer_of}
 use Rattle.observers.proofs.SeeingAlike.{observers_see_alike}
-use Rattle.lawful.specs.LooseNodes.{HoldsEffect, searched_runs}
+use Rattle.lawful.specs.LooseNodes.{HoldsEffect}
 use Rattle.lawful.specs.ObservedNodes.{SeesNoFinish, searched_observed, IsObservedWayOn, IsObservedWayToEnd, AreAllObservedWays}
 use Rattle.lawful.specs.declared.node.LooseNode.{LooseNode}
 use Rattle.lawful.proofs.Ways.{here_or_there}
@@ -36,48 +29,6 @@ pub no_finish_seen : (observing : Observing) → SeesNoFinish (observer_of obser
 no_finish_seen Lines s over = refl
 no_finish_seen (Registers registers) s over =
     (observers_see_alike (Registers registers)).1 s (record s { finished = true }) over refl
-
--- a node stands at a run before an observer where it does unobserved, and the other way round, for it holds no lines
-
-pub stands_plainly : (class : ℕ → ℕ) (code : Compiled) (limits : Limits) (observe : Observer) (node : LooseNode) (run : List LooseTransition) → StandsObserved (HoldsEffect code) class (design_of code) limits observe node run → StandsLoosely (HoldsEffect code) class (design_of code) limits node run
-stands_plainly class code limits observe node run at =
-    let (f, at_f, state) = observed_comes_plainly class (design_of code) limits observe run at.effect at.comes in
-    let held : Effect = record { state = at.held.state; lines = f.lines; changes = [] } in
-    record {
-      effect = f;
-      held = held;
-      comes = at_f;
-      one_node = (refl, subst (λ (s : State). AlikeIn class s at.held.state) state at.one_node.1);
-      in_order = at.in_order;
-      holds = record { ready = at.holds.ready; state_is = at.holds.state_is };
-    }
-
-pub stands_observed : (class : ℕ → ℕ) (code : Compiled) (limits : Limits) (observe : Observer) (node : LooseNode) (run : List LooseTransition) → StandsLoosely (HoldsEffect code) class (design_of code) limits node run → StandsObserved (HoldsEffect code) class (design_of code) limits observe node run
-stands_observed class code limits observe node run at =
-    let (e, at_e, state) = plainly_comes_observed class (design_of code) limits observe run at.effect at.comes in
-    let held : Effect = record { state = at.held.state; lines = e.lines; changes = [] } in
-    record {
-      effect = e;
-      held = held;
-      comes = at_e;
-      one_node = (refl, subst (λ (s : State). AlikeIn class s at.held.state) state at.one_node.1);
-      in_order = at.in_order;
-      holds = record { ready = at.holds.ready; state_is = at.holds.state_is };
-    }
-
-pub reached_plainly : (class : ℕ → ℕ) (code : Compiled) (limits : Limits) (observe : Observer) (node : LooseNode) → IsReached (searched_observed code class limits observe) node → IsReached (searched_runs code class limits) node
-reached_plainly class code limits observe node (run, at) = (run, stands_plainly class code limits observe node run at)
-
--- from where no observed run comes to an end, no run does
-pub endless_plainly : (class : ℕ → ℕ) (code : Compiled) (limits : Limits) (observe : Observer) (run : List LooseTransition) → IsEndless (searched_observed code class limits observe) run → IsEndless (searched_runs code class limits) run
-endless_plainly class code limits observe run endless =
-    record {
-      node = endless.node;
-      stands = stands_plainly class code limits observe endless.node run endless.stands;
-      never = λ moves end (e, at_e, here).
-          let (f, at_f, state) = plainly_comes_observed class (design_of code) limits observe (run ++ moves) e at_e in
-          endless.never moves (record { end = end; seen = observe f.state }) (f, at_f, (subst (λ (s : State). EndsHere (design_of code) limits (record f { state = s }) end) state here, refl));
-    }
 
 -- the ways from a node, as those of the observed runs at which it stands
 

@@ -1,5 +1,5 @@
 -- What is told of each way from a node is what an observer sees of it.
-use Rattle.std.proofs.Common.{◌≡◌, ◌≢◌, ◌⊎◌, ℕ, zero, suc, ◌<◌, Bool, true, false, List, [], ◌∷◌, ◌++◌, length, map, Some, inl, inr, refl, sym, ap, ◌∙◌, subst, arith}
+use Rattle.std.proofs.Common.{◌≡◌, ◌≢◌, ◌⊎◌, ℕ, zero, suc, Bool, true, false, List, [], ◌∷◌, ◌++◌, length, map, Some, inl, inr, refl, sym, ap, ◌∙◌, subst, arith}
 use Rattle.std.specs.List.{All, Any}
 use Rattle.std.specs.Prelude.{IsTrue}
 use Rattle.std.proofs.lemmas.List.Elements.{All-nil, All-cons, All-head, All-tail, All-map}
@@ -20,9 +20,8 @@ use Rattle.loose.specs.declared.transition.LooseTransition.{LooseTransition}
 use Rattle.loose.specs.Loose.{AlikeIn}
 use Rattle.looseruns.specs.LooseCover.{loose_ways_to}
 use Rattle.looseruns.specs.LooseGoing.{GoesLooselyTo}
-use Rattle.looseruns.specs.ObservedJournals.{Observer, SeenEnd, with_seen}
+use Rattle.looseruns.specs.ObservedJournals.{Observer, SeenEnd, effect_with_seen}
 use Rattle.looseruns.specs.ObservedMoves.{SeesAlike, StaysInTime, PassesTimeFirst, seen_first}
-use Rattle.looseruns.specs.ObservedRuns.{EndsHereObserved}
 use Rattle.looseruns.specs.ObservedGoing.{GoesObservedTo}
 use Rattle.looseruns.specs.ObservedCover.{TellsObservedEnds}
 use Rattle.looseruns.specs.ObservedEnding.{CoverToFinish, TellsWaysToFinish}
@@ -128,7 +127,7 @@ module _ (class : ℕ → ℕ) (code : Compiled) (limits : Limits) (observe : Ob
   next_seen : (next observed : Successor LooseNode LooseTransition) → IsNextSeen seen next observed → IsLooseWayOn class code limits s next → IsObservedWayOn class code limits observe s observed
   next_seen next observed is way =
       let first = seen_first observe s next.moves.items in
-      let g : Effect = with_seen first way.effect in
+      let g : Effect = effect_with_seen first way.effect in
       let goes : GoesObservedTo class (design_of code) limits observe s next.moves.items g = loose_way_is_observed class (design_of code) limits observe s next.moves.items way.effect is.first way.goes in
       let holds : HoldsEffect code next.node g = record { ready = way.holds.ready; state_is = way.holds.state_is } in
       record {
@@ -150,7 +149,7 @@ module _ (class : ℕ → ℕ) (code : Compiled) (limits : Limits) (observe : Ob
   end_seen : SeesAlike observe → SeesNoFinish observe → (ended : EndedPath LooseTransition End) (observed : EndedPath LooseTransition SeenEnd) → IsEndSeen seen ended observed → IsLooseWayToEnd class code limits s ended → IsObservedWayToEnd class code limits observe s observed
   end_seen sees none ended observed is way =
       let first = seen_first observe s ended.moves.items in
-      let g : Effect = with_seen first way.effect in
+      let g : Effect = effect_with_seen first way.effect in
       let goes : GoesObservedTo class (design_of code) limits observe s ended.moves.items g = loose_way_is_observed class (design_of code) limits observe s ended.moves.items way.effect (first_of_none ended.moves.items is.stay) way.goes in
       let here : EndsHere (design_of code) limits g ended.end = way.here in
       record {

@@ -21,8 +21,8 @@ abbrev pub texts_and_ends : {Move End : Type 0} → List (Shown Move End) → Li
 texts_and_ends shown = map (λ s. (s.text.items, s.end)) shown
 
 -- a text and an end are among these
-abbrev pub AreAmong : {End : Type 0} → List (List ℕ × End) → List ℕ → End → Type 0
-AreAmong told text end = Any (λ pair. (pair.0 ≡ text) × (pair.1 ≡ end)) told
+abbrev pub IsTextAmong : {End : Type 0} → List (List ℕ × End) → List ℕ → End → Type 0
+IsTextAmong told text end = Any (λ pair. (pair.0 ≡ text) × (pair.1 ≡ end)) told
 
 -- what is shown has a lawful journal of its text and its end beside it
 abbrev pub HasLawfulJournal : {End : Type 0} → JournalRelation End → Shown Entry End → Type 0

@@ -5,9 +5,7 @@ use Rattle.model.specs.declared.entry.Entry.{Entry}
 use Rattle.model.specs.declared.end.Limits.{Limits}
 use Rattle.model.specs.Design.{Design}
 use Rattle.model.specs.Runs.{last_time}
-use Rattle.model.specs.declared.end.End.{End}
-use Rattle.model.specs.Texts.{AreAllTexts, IsEndlessJournal}
-use Rattle.design.specs.Compiled.{Compiled, design_of}
+use Rattle.model.specs.Texts.{IsEndlessJournal}
 use Rattle.explore.specs.declared.Bounds.{Bounds}
 use Rattle.explore.specs.declared.Explored.{Explored}
 use Rattle.explore.specs.declared.stopped.Stopped.TheVariants as stop
@@ -15,9 +13,7 @@ use Rattle.explore.specs.SearchedRuns.{Runs}
 use Rattle.explore.specs.Search.{AreAllShown, AreDistinct}
 use Rattle.loose.specs.declared.transition.LooseTransition.{LooseTransition}
 use Rattle.lawful.specs.declared.node.LooseNode.{LooseNode}
-use Rattle.looseruns.specs.ObservedJournals.{Observer, SeenEnd, AreAllObservedTexts}
-use Rattle.loosejournals.specs.FoundJournals.{IsJournalOf, IsObservedJournalOf}
-use Rattle.lawful.specs.Journals.{JournalRelation, HasLawfulJournal, AreAmong, texts_and_ends}
+use Rattle.lawful.specs.Journals.{JournalRelation, HasLawfulJournal, texts_and_ends}
 
 -- what a search asks of its limits and its bounds: room for a node, and for an entry, and no time past the last one
 pub record MaySearch (limits : Limits) (bounds : Bounds) : Type 0 where
@@ -46,13 +42,3 @@ pub record AreLawfulOrders {End : Type 0} (IsJournal : JournalRelation End) (Are
   pub nodes_full : found.stopped ≡ Some stop.Nodes → found.nodes ≡ bounds.nodes
   pub shown_full : found.stopped ≡ Some stop.Shown → length found.shown.items ≡ bounds.shown
   pub never_ends : IfSome found.endless (λ journal. IsEndlessJournal design limits journal.items)
-
--- the same of lines and how runs end
-abbrev pub AreLinesOrders : Compiled → Limits → Bounds → Explored Entry End → Type 0
-AreLinesOrders code limits bounds found =
-    AreLawfulOrders (IsJournalOf code limits) (λ told. AreAllTexts (design_of code) limits (AreAmong told)) (design_of code) limits bounds found
-
--- the same of what an observer sees
-abbrev pub AreObservedOrders : Compiled → Limits → Bounds → Observer → Explored Entry SeenEnd → Type 0
-AreObservedOrders code limits bounds observe found =
-    AreLawfulOrders (IsObservedJournalOf code limits observe) (λ told. AreAllObservedTexts (design_of code) limits observe (AreAmong told)) (design_of code) limits bounds found

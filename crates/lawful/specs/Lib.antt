@@ -6,4 +6,5 @@ pub mod Journals
 pub mod LawfulOrders
 pub mod ObservedNodes
 pub mod ObservedWays
+pub mod Told
 pub mod Serving

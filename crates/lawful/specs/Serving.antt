@@ -1,9 +1,12 @@
--- Why loose runs that come to one node serve one another in a search, seen or unseen. Nothing here has to be believed: it is proved, and stands here since
--- the search's own ghost members name it.
-use Rattle.std.proofs.Common.{◌≡◌, ℕ, List, sym, ap, subst, ◌∙◌}
+-- Why a search of loose runs may keep one of those that come to one node, seen or unseen; at which nodes runs that are seen stand; and what it
+-- tells of all lawful journals. Nothing here has to be believed: it is proved, and stands here since the ghost members of what is told name it.
+use Rattle.std.proofs.Common.{◌≡◌, ℕ, zero, suc, List, [], ◌∷◌, ◌++◌, map, refl, sym, ap, subst, ◌∙◌, arith}
+use Rattle.std.specs.List.{Any}
 use Rattle.model.specs.declared.end.Limits.{Limits}
+use Rattle.model.specs.declared.end.End.{End}
 use Rattle.model.specs.States.{State}
 use Rattle.model.specs.Runs.{Effect}
+use Rattle.model.specs.Texts.{AreAllTexts, EndsHere}
 use Rattle.loose.specs.declared.transition.LooseTransition.{LooseTransition}
 use Rattle.loose.specs.Loose.{AlikeIn}
 use Rattle.design.specs.Compiled.{Compiled, design_of}
@@ -11,14 +14,18 @@ use Rattle.design.specs.DesignInvariant.{remainder_of_state}
 use Rattle.regions.specs.Queue.{state_of}
 use Rattle.statekeys.specs.ClassKeys.{IsClassKey}
 use Rattle.statekeys.proofs.ClassKeys.{class_keys_tell_states}
-use Rattle.explore.specs.Search.{Serves}
+use Rattle.explore.specs.declared.Shown.{Shown}
+use Rattle.explore.specs.Search.{Serves, IsEndless, IsShown, AreAllShown}
 use Rattle.looseruns.specs.LooseRuns.{text_of_moves, ComeToOneLooseNode, StandsLoosely}
-use Rattle.looseruns.proofs.LooseSearches.{alike_loose_runs_serve, alike_held_runs_are_alike}
+use Rattle.looseruns.specs.ObservedJournals.{Observer, SeenEnd, AreAllObservedTexts}
 use Rattle.looseruns.specs.ObservedRuns.{observed_text_of_moves, ComeToOneObservedNode, StandsObserved}
-use Rattle.looseruns.proofs.ObservedSearches.{alike_observed_runs_serve, alike_held_observed_are_alike}
+use Rattle.looseruns.proofs.LooseSearches.{alike_loose_runs_serve, alike_held_runs_are_alike, all_loose_shown_are_all}
+use Rattle.looseruns.proofs.ObservedParts.{observed_comes_plainly, plainly_comes_observed}
+use Rattle.looseruns.proofs.ObservedSearches.{alike_observed_runs_serve, alike_held_observed_are_alike, all_observed_shown_are_all}
 use Rattle.observers.specs.declared.observing.Observing.{Observing}
 use Rattle.observers.specs.Observers.{observer_of}
 use Rattle.observers.proofs.SeeingAlike.{observers_see_alike}
+use Rattle.lawful.specs.Journals.{texts_and_ends, IsTextAmong}
 use Rattle.lawful.specs.LooseNodes.{HoldsEffect, searched_runs}
 use Rattle.lawful.specs.ObservedNodes.{searched_observed}
 use Rattle.lawful.specs.declared.node.LooseNode.{LooseNode}
@@ -54,3 +61,65 @@ pub observed_keyed : (code : Compiled) (class : ℕ → ℕ) (limits : Limits) (
     → ComeToOneObservedNode class (design_of code) limits (observer_of observing) i j
 observed_keyed code class limits observing a b i j key of_a of_b at_a at_b text =
     alike_held_observed_are_alike (HoldsEffect code) class (design_of code) limits (observer_of observing) a b i j (λ e f held_a held_b. keys_tell_alike class code a b key e f of_a of_b held_a held_b) at_a at_b text
+
+-- a node stands at a run before an observer where it does unobserved, and the other way round, for it holds no lines
+
+pub stands_plainly : (class : ℕ → ℕ) (code : Compiled) (limits : Limits) (observe : Observer) (node : LooseNode) (run : List LooseTransition) → StandsObserved (HoldsEffect code) class (design_of code) limits observe node run → StandsLoosely (HoldsEffect code) class (design_of code) limits node run
+stands_plainly class code limits observe node run at =
+    let (f, at_f, state) = observed_comes_plainly class (design_of code) limits observe run at.effect at.comes in
+    let held : Effect = record { state = at.held.state; lines = f.lines; changes = [] } in
+    record {
+      effect = f;
+      held = held;
+      comes = at_f;
+      one_node = (refl, subst (λ (s : State). AlikeIn class s at.held.state) state at.one_node.1);
+      in_order = at.in_order;
+      holds = record { ready = at.holds.ready; state_is = at.holds.state_is };
+    }
+
+pub stands_observed : (class : ℕ → ℕ) (code : Compiled) (limits : Limits) (observe : Observer) (node : LooseNode) (run : List LooseTransition) → StandsLoosely (HoldsEffect code) class (design_of code) limits node run → StandsObserved (HoldsEffect code) class (design_of code) limits observe node run
+stands_observed class code limits observe node run at =
+    let (e, at_e, state) = plainly_comes_observed class (design_of code) limits observe run at.effect at.comes in
+    let held : Effect = record { state = at.held.state; lines = e.lines; changes = [] } in
+    record {
+      effect = e;
+      held = held;
+      comes = at_e;
+      one_node = (refl, subst (λ (s : State). AlikeIn class s at.held.state) state at.one_node.1);
+      in_order = at.in_order;
+      holds = record { ready = at.holds.ready; state_is = at.holds.state_is };
+    }
+
+-- from where no observed run comes to an end, no run does
+pub endless_plainly : (class : ℕ → ℕ) (code : Compiled) (limits : Limits) (observe : Observer) (run : List LooseTransition) → IsEndless (searched_observed code class limits observe) run → IsEndless (searched_runs code class limits) run
+endless_plainly class code limits observe run endless =
+    record {
+      node = endless.node;
+      stands = stands_plainly class code limits observe endless.node run endless.stands;
+      never = λ moves end (e, at_e, here).
+          let (f, at_f, state) = plainly_comes_observed class (design_of code) limits observe (run ++ moves) e at_e in
+          endless.never moves (record { end = end; seen = observe f.state }) (f, at_f, (subst (λ (s : State). EndsHere (design_of code) limits (record f { state = s }) end) state here, refl));
+    }
+
+-- where all runs are shown, the texts and ends of all lawful journals are among those that are shown
+
+-- what holds of what some element is mapped to holds of some element of the mapped list
+any_mapped : {X Y : Type 0} (h : X → Y) (P : Y → Type 0) (xs : List X) → Any (λ x. P (h x)) xs → Any P (map h xs)
+any_mapped h P [] (k, x, within, at, p) = absurd (omega (arith, within))
+any_mapped h P (x ∷ xs) (zero, y, within, at, p) = (0, h x, omega arith, refl, subst (λ z. P (h z)) (sym at) p)
+any_mapped h P (x ∷ xs) (suc k, y, within, at, p) =
+    let (j, z, low, there, q) = any_mapped h P xs (k, y, omega (arith, within), at, p) in
+    (suc j, z, omega (arith, low), there, q)
+
+among_shown : {Move End : Type 0} (shown : List (Shown Move End)) (text : List ℕ) (end : End) → IsShown shown text end → IsTextAmong (texts_and_ends shown) text end
+among_shown {Move} {End} shown text end there =
+    any_mapped (λ (s : Shown Move End). (s.text.items, s.end)) (λ (pair : List ℕ × End). (pair.0 ≡ text) × (pair.1 ≡ end)) shown there
+
+pub all_texts_told : (code : Compiled) (class : ℕ → ℕ) (limits : Limits) (shown : List (Shown LooseTransition End)) → AreAllShown (searched_runs code class limits) shown → AreAllTexts (design_of code) limits (IsTextAmong (texts_and_ends shown))
+all_texts_told code class limits shown all journal text end is timely ends few memory =
+    among_shown shown text end (all_loose_shown_are_all (HoldsEffect code) class (design_of code) limits shown all journal text end is timely ends few memory)
+
+pub all_observed_told : (observing : Observing) (code : Compiled) (class : ℕ → ℕ) (limits : Limits) (shown : List (Shown LooseTransition SeenEnd)) → AreAllShown (searched_observed code class limits (observer_of observing)) shown
+    → AreAllObservedTexts (design_of code) limits (observer_of observing) (IsTextAmong (texts_and_ends shown))
+all_observed_told observing code class limits shown all journal text end is timely ends few memory =
+    among_shown shown text end (all_observed_shown_are_all (HoldsEffect code) class (design_of code) limits (observer_of observing) shown (observers_see_alike observing).0 all journal text end is timely ends few memory)

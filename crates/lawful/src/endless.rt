@@ -33,9 +33,9 @@ fn stand_alike(
     one.stands();
     other.stands();
     let mut key = Vec::new(alloc);
-    room.fill_key(&mut key, one, classes)?;
+    room.parts.fill_key(&mut key, one, classes)?;
     let mut other_key = Vec::new(alloc);
-    room.fill_key(&mut other_key, other, classes)?;
+    room.parts.fill_key(&mut other_key, other, classes)?;
     Ok(key.as_slice() == other_key.as_slice())
 }
 

@@ -8,7 +8,7 @@ ghost use Rattle.lawful.specs.LooseNodes.{searched_runs};
 ghost use Rattle.lawful.specs.Journals.{AreFirstShownLawfully, IsAddedLawfully, IsFoundLawfully, IsShownLawfully, IsStoppedBy, memory_or};
 
 use crate::endless::endless_journal;
-use crate::journal_search::JournalSearch;
+use crate::telling::RunTelling;
 use explore::{Explored, Shown, Stopped};
 use loose::transition::LooseTransition;
 use loosejournals::LeadScope;
@@ -17,15 +17,15 @@ use std::alloc::AllocError;
 
 // A text and an end with a lawful journal of them, in the place of the loose run. None where no journal is found. Fails where memory is
 // refused.
-fn with_journal<S: JournalSearch>(
-    kind: &S,
+fn with_journal<T: RunTelling>(
+    telling: &T,
     scope: LeadScope<'_>,
-    shown: Shown<LooseTransition, S::End>,
-) -> Result<Option<Shown<Entry, S::End>>, AllocError>
+    shown: Shown<LooseTransition, T::End>,
+) -> Result<Option<Shown<Entry, T::End>>, AllocError>
     requires until { IfSome scope.limits.until (λ until. until ≤ last_time) }
-    ensures { IfOk result (λ found. IfSome found (IsShownLawfully (S.is_journal kind.now scope.entry.design.now scope.entry.limits) shown)) }
+    ensures { IfOk result (λ found. IfSome found (IsShownLawfully (T.is_journal telling.now scope.entry.design.now scope.entry.limits) shown)) }
 {
-    let found = kind.journal(scope, &shown)?;
+    let found = telling.journal(scope, &shown)?;
     let Shown { text, end, .. } = shown;
     match found {
         Some(journal) => Ok(Some(Shown {
@@ -45,17 +45,17 @@ struct ShownLawfully<E> {
 
 // Adds a text and an end with a lawful journal of them. Answers whether one was found. Fails where memory is refused, and then none is
 // added.
-fn add_journal<S: JournalSearch>(
-    kind: &S,
+fn add_journal<T: RunTelling>(
+    telling: &T,
     scope: LeadScope<'_>,
-    shown: Shown<LooseTransition, S::End>,
-    lawful: &mut Vec<Shown<Entry, S::End>>,
+    shown: Shown<LooseTransition, T::End>,
+    lawful: &mut Vec<Shown<Entry, T::End>>,
 ) -> Result<bool, AllocError>
     requires until { IfSome scope.limits.until (λ until. until ≤ last_time) }
-    ensures added { IfOk result (λ added. added ≡ true → IsAddedLawfully (S.is_journal kind.now scope.entry.design.now scope.entry.limits) lawful.old.items shown lawful.new.items) }
+    ensures added { IfOk result (λ added. added ≡ true → IsAddedLawfully (T.is_journal telling.now scope.entry.design.now scope.entry.limits) lawful.old.items shown lawful.new.items) }
     ensures refused { OnErr result (lawful.new.items ≡ lawful.old.items) }
 {
-    match with_journal(kind, scope, shown)? {
+    match with_journal(telling, scope, shown)? {
         Some(one) => {
             lawful.push(one)?;
             Ok(true)
@@ -66,17 +66,17 @@ fn add_journal<S: JournalSearch>(
 
 // The same texts and ends in the same order, with a lawful journal of each. Where memory is refused to one, those before it. None where no
 // lawful journal is found of one.
-fn with_journals<S: JournalSearch>(
-    kind: &S,
+fn with_journals<T: RunTelling>(
+    telling: &T,
     scope: LeadScope<'_>,
-    shown: Vec<Shown<LooseTransition, S::End>>,
-) -> Option<ShownLawfully<S::End>>
+    shown: Vec<Shown<LooseTransition, T::End>>,
+) -> Option<ShownLawfully<T::End>>
     requires until { IfSome scope.limits.until (λ until. until ≤ last_time) }
-    ensures { IfSome result (λ lawful. AreFirstShownLawfully (S.is_journal kind.now scope.entry.design.now scope.entry.limits) shown.items lawful.shown.items lawful.whole) }
+    ensures { IfSome result (λ lawful. AreFirstShownLawfully (T.is_journal telling.now scope.entry.design.now scope.entry.limits) shown.items lawful.shown.items lawful.whole) }
 {
     let mut lawful = Vec::new(scope.alloc);
     for loosely in shown {
-        match add_journal(kind, scope, loosely, &mut lawful) {
+        match add_journal(telling, scope, loosely, &mut lawful) {
             Ok(added) => {
                 if !added {
                     return None;
@@ -122,14 +122,14 @@ fn stopped_by(stopped: Option<Stopped>, whole: bool) -> Option<Stopped>
 /// What a search of loose runs found, with lawful journals in the place of its runs: one of each text and end that is shown, and one from
 /// which no run comes to an end, where it found such a run. Where memory is refused to a journal, what has one so far, and the search says
 /// that it stopped. None where no lawful journal is found of one of these runs.
-pub(crate) fn with_all_journals<S: JournalSearch>(
-    kind: &S,
+pub(crate) fn with_all_journals<T: RunTelling>(
+    telling: &T,
     scope: LeadScope<'_>,
-    explored: Explored<LooseTransition, S::End>,
-) -> Option<Explored<Entry, S::End>>
+    explored: Explored<LooseTransition, T::End>,
+) -> Option<Explored<Entry, T::End>>
     requires until { IfSome scope.limits.until (λ until. until ≤ last_time) }
     requires endless { IfSome explored.endless (λ moves. IsEndless (searched_runs scope.design.now (class_in scope.classes.now) scope.limits) moves.items) }
-    ensures { IfSome result (IsFoundLawfully (S.is_journal kind.now scope.entry.design.now scope.entry.limits) (design_of scope.entry.design.now) scope.entry.limits explored) }
+    ensures { IfSome result (IsFoundLawfully (T.is_journal telling.now scope.entry.design.now scope.entry.limits) (design_of scope.entry.design.now) scope.entry.limits explored) }
 {
     let Explored {
         shown,
@@ -137,7 +137,7 @@ pub(crate) fn with_all_journals<S: JournalSearch>(
         nodes,
         endless,
     } = explored;
-    let ShownLawfully { shown, whole } = with_journals(kind, scope, shown)?;
+    let ShownLawfully { shown, whole } = with_journals(telling, scope, shown)?;
     let moves = match endless {
         Some(moves) => moves,
         None => {

@@ -7,12 +7,11 @@ ghost use Rattle.design.specs.Compiled.{design_of};
 ghost use Rattle.explore.specs.declared.stopped.Stopped.TheVariants as stop;
 ghost use Rattle.looseruns.specs.ObservedJournals.{AreAllObservedTexts, IsObservedText};
 ghost use Rattle.observers.specs.Observers.{observer_of};
-ghost use Rattle.lawful.specs.LawfulOrders.{AreLinesOrders, AreObservedOrders, MaySearch};
+ghost use Rattle.lawful.specs.LawfulOrders.{AreLawfulOrders, MaySearch};
 
-use crate::journal_search::LinesAlone;
 use crate::journals::with_all_journals;
-use crate::observed_runs::ObservedRuns;
 use crate::search::LooseRuns;
+use crate::telling::{LinesAlone, RunTelling};
 use design::Design;
 use explore::{Bounds, Explored, Stopped, explore};
 use loosejournals::{LeadScope, classes_of};
@@ -52,96 +51,57 @@ fn nothing_found<E: Drop>(alloc: Global) -> Explored<Entry, E>
 // journal. None where no lawful journal is found of a text that loose runs show, or none that leads where a loose run leads from which no
 // run comes to an end: that text may be one of no lawful journal, and the others may be fewer than all; lawful runs may all come to an end.
 // Where memory is refused, to the search or to a journal behind it, it stops with what has a journal so far.
-fn orders_by<P: Progress>(
+fn orders_by<T: RunTelling, P: Progress>(
     scope: Scope<'_>,
+    telling: &T,
     progress: &P,
     classes: Vec<u32>,
-) -> Option<Explored<Entry, End>>
+) -> Option<Explored<Entry, T::End>>
     requires { MaySearch scope.limits scope.bounds }
-    ensures { IfSome result (AreLinesOrders scope.entry.design.now scope.entry.limits scope.entry.bounds) }
-{
-    let Scope {
-        alloc,
-        design,
-        limits,
-        bounds,
-    } = scope;
-    let orders = LooseRuns::new(AnalyzedDesign::of(alloc, design), classes, limits);
-    let explored = explore(alloc, &orders, bounds, progress);
-    let leading = LeadScope {
-        alloc,
-        design,
-        limits,
-        classes: orders.classes.as_slice(),
-    };
-    with_all_journals(&LinesAlone, leading, explored)
-}
-
-// Searches by the classes that the design's nonblocking assignments need, and where these don't tell with all registers in one class: then
-// each loose run is a lawful one.
-fn orders_of<P: Progress>(scope: Scope<'_>, progress: &P) -> Explored<Entry, End>
-    requires { MaySearch scope.limits scope.bounds }
-    ensures { AreLinesOrders scope.entry.design.now scope.entry.limits scope.entry.bounds result }
-{
-    let classes = match classes_of(scope.alloc, scope.design) {
-        Ok(classes) => classes,
-        Err(_) => return nothing_found(scope.alloc),
-    };
-    if let Some(explored) = orders_by(scope, progress, classes) {
-        return explored;
-    }
-    // a register that isn't listed is of class 0
-    match orders_by(scope, progress, Vec::new(scope.alloc)) {
-        Some(explored) => explored,
-        None => nothing_found(scope.alloc),
-    }
-}
-
-// Searches them likewise for what is observed of them.
-fn observed_by<P: Progress>(
-    scope: Scope<'_>,
-    observing: &Observing,
-    progress: &P,
-    classes: Vec<u32>,
-) -> Option<Explored<Entry, ObservedEnd>>
-    requires { MaySearch scope.limits scope.bounds }
-    ensures { IfSome result (AreObservedOrders scope.entry.design.now scope.entry.limits scope.entry.bounds (observer_of observing.now)) }
+    ensures { IfSome result (AreLawfulOrders (T.is_journal telling.now scope.entry.design.now scope.entry.limits) (T.are_all telling.now scope.entry.design.now scope.entry.limits) (design_of scope.entry.design.now) scope.entry.limits scope.entry.bounds) }
 {
     let analyzed_design = AnalyzedDesign::of(scope.alloc, scope.design);
-    let loosely = LooseRuns::new(analyzed_design, classes, scope.limits);
-    let orders = ObservedRuns {
-        loosely: &loosely,
-        observing,
-    };
+    let orders = LooseRuns::new(analyzed_design, classes, scope.limits, telling);
     let explored = explore(scope.alloc, &orders, scope.bounds, progress);
     let leading = LeadScope {
         alloc: scope.alloc,
         design: scope.design,
         limits: scope.limits,
-        classes: loosely.classes.as_slice(),
+        classes: orders.classes.as_slice(),
     };
-    with_all_journals(observing, leading, explored)
+    with_all_journals(telling, leading, explored)
 }
 
-// Searches so by the classes that are needed, and else with all registers in one class.
-fn observed_of<P: Progress>(
-    scope: Scope<'_>,
-    observing: &Observing,
+// Searches by the classes that the design's nonblocking assignments need, and where these don't tell with all registers in one class: then
+// each loose run is a lawful one.
+fn told_orders<T: RunTelling, P: Progress>(
+    telling: &T,
+    alloc: Global,
+    design: &Design,
+    limits: Limits,
+    bounds: Bounds,
     progress: &P,
-) -> Explored<Entry, ObservedEnd>
-    requires { MaySearch scope.limits scope.bounds }
-    ensures { AreObservedOrders scope.entry.design.now scope.entry.limits scope.entry.bounds (observer_of observing.now) result }
+) -> Explored<Entry, T::End>
+    requires { MaySearch limits bounds }
+    ensures { AreLawfulOrders (T.is_journal telling.now design.now limits) (T.are_all telling.now design.now limits) (design_of design.now) limits bounds result }
 {
-    let classes = match classes_of(scope.alloc, scope.design) {
-        Ok(classes) => classes,
-        Err(_) => return nothing_found(scope.alloc),
+    let scope = Scope {
+        alloc,
+        design,
+        limits,
+        bounds,
     };
-    if let Some(explored) = observed_by(scope, observing, progress, classes) {
+    let classes = match classes_of(alloc, design) {
+        Ok(classes) => classes,
+        Err(_) => return nothing_found(alloc),
+    };
+    if let Some(explored) = orders_by(scope, telling, progress, classes) {
         return explored;
     }
-    match observed_by(scope, observing, progress, Vec::new(scope.alloc)) {
+    // a register that isn't listed is of class 0
+    match orders_by(scope, telling, progress, Vec::new(alloc)) {
         Some(explored) => explored,
-        None => nothing_found(scope.alloc),
+        None => nothing_found(alloc),
     }
 }
 
@@ -174,13 +134,7 @@ pub fn lawful_orders<P: Progress>(
     ensures full { result.stopped ≡ Some stop.Shown → length result.shown.items ≡ bounds.shown }
     ensures endless { IfSome result.endless (λ journal. IsEndlessJournal (design_of design.now) limits journal.items) }
 {
-    let scope = Scope {
-        alloc,
-        design,
-        limits,
-        bounds,
-    };
-    orders_of(scope, progress)
+    told_orders(&LinesAlone, alloc, design, limits, bounds, progress)
 }
 
 /// Searches all lawful orders of a design within these limits (11.4) for all that is observed of them: the lines in order, and what an observer sees
@@ -211,11 +165,5 @@ pub fn observed_orders<P: Progress>(
     ensures full { result.stopped ≡ Some stop.Shown → length result.shown.items ≡ bounds.shown }
     ensures endless { IfSome result.endless (λ journal. IsEndlessJournal (design_of design.now) limits journal.items) }
 {
-    let scope = Scope {
-        alloc,
-        design,
-        limits,
-        bounds,
-    };
-    observed_of(scope, observing, progress)
+    told_orders(observing, alloc, design, limits, bounds, progress)
 }

@@ -10,8 +10,8 @@
 //!    covered, the texts and ends of all lawful journals in time are shown.
 //! 5. `journals` gives each text that is shown its lawful journal, and `endless` one to a run from which no run comes to an end.
 //! 6. `observed_orders` searches for what an observer sees of all lawful journals besides their lines. `observed_ways` tells what it sees of the
-//!    ways from a node, each of which goes on no further than to where time passes; `observed_runs` gives that to the search of `explore`. How a
-//!    run gets its lawful journal, `journal_search` says for both.
+//!    ways from a node, each of which goes on no further than to where time passes.
+//! 7. `telling` has what differs between the two searches: what is told of ways and of ends, and how a run gets its lawful journal.
 //!
 //! The definitions stand in `specs/`. The runs that are searched are those of `looseruns`, and what they say of lawful journals is proved
 //! there.
@@ -21,14 +21,13 @@ mod again;
 mod by_parts;
 mod endless;
 mod expand;
-mod journal_search;
 mod journals;
 mod lawful;
 mod node;
-mod observed_runs;
 mod observed_ways;
 mod search;
 mod search_room;
+mod telling;
 
 pub use lawful::{lawful_orders, observed_orders};
 pub use node::LooseNode;

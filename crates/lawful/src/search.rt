@@ -1,4 +1,4 @@
-//! The loose runs of a design, as a search follows them.
+//! The loose runs of a design, as a search follows them and tells of them.
 ghost use Rattle.std.specs.Prelude.{◌≡◌, [], IfOk};
 ghost use Rattle.model.specs.States.{start};
 ghost use Rattle.regions.specs.Machine.{state_at};
@@ -11,11 +11,11 @@ use crate::again::{again, weight};
 use crate::expand::{ExpandScope, LooseWays, expand};
 use crate::node::LooseNode;
 use crate::search_room::SearchRoom;
+use crate::telling::RunTelling;
 use design::Design;
 use explore::{Expanded, Orders};
 use loose::transition::LooseTransition;
-use loosewalks::WalkStops;
-use model::end::{End, Limits};
+use model::end::Limits;
 use regions::Machine;
 use settling::AnalyzedDesign;
 use std::alloc::{AllocError, Global};
@@ -34,39 +34,42 @@ pub(crate) fn start_of<'d>(
     Ok(boxed)
 }
 
-/// The loose runs of a design in time, by these classes of its registers.
+/// The loose runs of a design in time, by these classes of its registers, and what is told of them.
 #[derive(Drop)]
-pub(crate) struct LooseRuns<'d> {
+pub(crate) struct LooseRuns<'a, 'd, T> {
     pub(crate) analyzed_design: AnalyzedDesign<'d>,
     pub(crate) classes: Vec<u32>,
     pub(crate) limits: Limits,
+    pub(crate) telling: &'a T,
     ghost bounded: { AreBounded limits },
 }
 
-impl<'d> LooseRuns<'d> {
-    /// The loose runs of a design within limits, by these classes of its registers.
+impl<'a, 'd, T: RunTelling> LooseRuns<'a, 'd, T> {
+    /// The loose runs of a design within limits, by these classes of its registers, and what is told of them.
     pub(crate) fn new(
         analyzed_design: AnalyzedDesign<'d>,
         classes: Vec<u32>,
         limits: Limits,
-    ) -> LooseRuns<'d>
+        telling: &'a T,
+    ) -> LooseRuns<'a, 'd, T>
         requires { AreBounded limits }
         ensures design { result.analyzed_design ≡ analyzed_design.entry }
         ensures classes { result.classes ≡ classes }
         ensures limits { result.limits ≡ limits }
+        ensures telling { result.telling.now ≡ telling.now }
     {
         LooseRuns {
             analyzed_design,
             classes,
             limits,
+            telling,
         }
     }
 
-    /// Follows the ways that go on loosely from a node in time, by walks that stop so, with the combinational processes that were found once.
-    pub(crate) fn ways(
+    // Follows the ways that go on loosely from a node in time, with the combinational processes that were found once.
+    fn ways(
         &self,
         alloc: Global,
-        stops: WalkStops,
         room: &mut SearchRoom,
         node: LooseNode<'d>,
     ) -> Result<LooseWays<'d>, AllocError>
@@ -77,26 +80,24 @@ impl<'d> LooseRuns<'d> {
             alloc,
             classes: self.classes.as_slice(),
             limits: self.limits,
-            stops,
+            stops: self.telling.stops(),
         };
         expand(scope, &self.analyzed_design, room, node.machine)
     }
 }
 
-impl<'d> Orders for LooseRuns<'d> {
-    ghost use Rattle.std.specs.Prelude.{refl};
+impl<'a, 'd, T: RunTelling> Orders for LooseRuns<'a, 'd, T> {
     ghost use Rattle.statekeys.specs.ClassKeys.{IsClassKey};
-    ghost use Rattle.lawful.specs.Serving.{loose_alike, loose_keyed};
 
     type Move = LooseTransition;
 
     type Node = LooseNode<'d>;
 
-    type End = End;
+    type End = T::End;
 
     type Room = SearchRoom;
 
-    ghost runs = { λ o. searched_runs o.analyzed_design (class_in o.classes.items) o.limits };
+    ghost runs = { λ o. T.runs o.telling.now o.analyzed_design (class_in o.classes.items) o.limits };
 
     ghost has_key = { λ o node key. IsClassKey (class_in o.classes.items) node.machine.value.core node.machine.value.values key };
 
@@ -111,15 +112,17 @@ impl<'d> Orders for LooseRuns<'d> {
         SearchRoom::new(alloc)
     }
 
-    // Follows the ways that go on loosely from a node, up to the next choices.
+    // Follows the ways that go on loosely from a node, up to the next choices or to where time passes, and tells of them.
     fn expand(
         &self,
         alloc: Global,
         room: &mut SearchRoom,
         node: LooseNode<'d>,
-    ) -> Result<Expanded<LooseNode<'d>, LooseTransition, End>, AllocError> {
-        let expanded = self.ways(alloc, WalkStops::AtChoices, room, node)?;
-        Ok(expanded)
+    ) -> Result<Expanded<LooseNode<'d>, LooseTransition, T::End>, AllocError> {
+        let seen = self.telling.see(alloc, &node.machine)?;
+        let ways = self.ways(alloc, room, node)?;
+        let told = self.telling.tell(alloc, &seen, ways)?;
+        Ok(told)
     }
 
     fn key(
@@ -128,7 +131,7 @@ impl<'d> Orders for LooseRuns<'d> {
         key: &mut Vec<u8>,
         node: &LooseNode<'d>,
     ) -> Result<(), AllocError> {
-        room.fill_key(key, &node.machine, &self.classes)
+        room.parts.fill_key(key, &node.machine, &self.classes)
     }
 
     fn weight(&self, node: &LooseNode<'d>) -> usize {
@@ -147,13 +150,13 @@ impl<'d> Orders for LooseRuns<'d> {
         Ok(LooseNode { machine })
     }
 
-    fn same_end(&self, a: &End, b: &End) -> bool {
-        *a == *b
+    fn same_end(&self, a: &T::End, b: &T::End) -> bool {
+        self.telling.is_one_end(a, b)
     }
 
-    ghost silent = { λ _. refl };
+    ghost silent = { λ o. T.silent o.telling.now o.analyzed_design (class_in o.classes.items) o.limits };
 
-    ghost alike = { λ o i j a. loose_alike o.analyzed_design (class_in o.classes.items) o.limits i j a };
+    ghost alike = { λ o i j is. T.alike o.telling.now o.analyzed_design (class_in o.classes.items) o.limits i j is };
 
-    ghost keyed = { λ o a b i j key of_a of_b at bt text. loose_keyed o.analyzed_design (class_in o.classes.items) o.limits a b i j key of_a of_b at bt text };
+    ghost keyed = { λ o a b i j key of_a of_b at bt text. T.keyed o.telling.now o.analyzed_design (class_in o.classes.items) o.limits a b i j key of_a of_b at bt text };
 }

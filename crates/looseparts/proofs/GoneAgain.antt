@@ -29,7 +29,7 @@ use Rattle.looseparts.specs.StandTogether.{concern, EndsBy, StandTogether}
 use Rattle.looseparts.specs.ActorSteps.{IsActorStep}
 use Rattle.looseparts.specs.FoundWays.{ways_in}
 use Rattle.looseparts.specs.GoneWays.{IsWayGone, ComesTo, CameTo, HasRepeat, ways_of, AreWaysKept, HasSame, IsKeptOnce, StandAsWell}
-use Rattle.looseparts.specs.declared.repeats.GoneWay.{GoneWay}
+use Rattle.looseparts.specs.declared.gone_way.GoneWay.{GoneWay}
 use Rattle.looseparts.proofs.Lists.{contains_here, contains_later, contains_none, contains_split, contains_mapped, all_contained}
 use Rattle.looseparts.proofs.Covering.{none_both, stepping}
 

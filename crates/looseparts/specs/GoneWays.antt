@@ -14,7 +14,7 @@ use Rattle.footprints.specs.Moves.{OrderedState, loose_moves}
 use Rattle.certificates.specs.Notes.{NoteView}
 use Rattle.certifiedruns.specs.CertifiedCover.{actors_of}
 use Rattle.looseparts.specs.StandTogether.{StandTogether}
-use Rattle.looseparts.specs.declared.repeats.GoneWay.{GoneWay}
+use Rattle.looseparts.specs.declared.gone_way.GoneWay.{GoneWay}
 
 -- A machine went a way: that is a run none of whose steps ends it, unless it has finished then; it leads to what is like where the machine
 -- stands; and what it prints stands behind the lines.

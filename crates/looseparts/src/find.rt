@@ -40,26 +40,6 @@ fn put_together(alloc: Global, parts: Vec<FoundPart>) -> Result<Option<PartFindi
     Ok(Some(all))
 }
 
-// Goes on with a group behind a step, unless it ended the run.
-#[cycle(find)]
-fn go_on(
-    room: &mut PartsRoom,
-    classes: &[u32],
-    machine: &Machine<'_>,
-    depth: u32,
-    group: &[LooseTransition],
-) -> Result<Option<PartFindings>, AllocError>
-    requires { IsInOrder (state_at machine.now) }
-    ensures going { machine.now.core.finished ≡ false → IfOk result (λ found. IfSome found (IsFoundFor (class_in classes.now) machine.now.code (state_at machine.now) group.now)) }
-    ensures finished { machine.now.core.finished ≡ true → IfOk result (λ found. IfSome found (λ found. ways_in found.ends.items ≡ [] ∷ [])) }
-{
-    if machine.is_finished() {
-        let end = PartFindings::of_end(room.alloc)?;
-        return Ok(Some(end));
-    }
-    explore(room, classes, machine, depth, group)
-}
-
 // Follows an actor of a group first: its step, and then what is left of the group, with those whom the step woke.
 #[cycle(find)]
 fn follow_one(
@@ -80,7 +60,7 @@ fn follow_one(
     let next = waiting_of(room.alloc, &copy, classes, group, &room.note)?;
     let mut notes = Vec::new(room.alloc);
     move_note(room.alloc, &mut notes, &mut room.note)?;
-    match go_on(room, classes, &copy, depth, &next)? {
+    match explore(room, classes, &copy, depth, &next)? {
         Some(mut found) => {
             found.put_behind(room.alloc, actor, &mut notes)?;
             Ok(Some(found))
@@ -173,7 +153,7 @@ fn part_of(
 }
 
 // Finds what the actors of a group do alone, where nobody else whom they wake waits already: parts that are apart, each followed by its
-// first steps. The depth is how many steps may be taken one behind another.
+// first steps; and of a run that has finished, its end. The depth is how many steps may be taken one behind another.
 #[cycle(find)]
 pub(crate) fn explore(
     room: &mut PartsRoom,
@@ -182,10 +162,14 @@ pub(crate) fn explore(
     depth: u32,
     group: &[LooseTransition],
 ) -> Result<Option<PartFindings>, AllocError>
-    requires order { IsInOrder (state_at machine.now) }
-    requires going { machine.now.core.finished ≡ false }
-    ensures { IfOk result (λ found. IfSome found (IsFoundFor (class_in classes.now) machine.now.code (state_at machine.now) group.now)) }
+    requires { IsInOrder (state_at machine.now) }
+    ensures going { machine.now.core.finished ≡ false → IfOk result (λ found. IfSome found (IsFoundFor (class_in classes.now) machine.now.code (state_at machine.now) group.now)) }
+    ensures finished { machine.now.core.finished ≡ true → IfOk result (λ found. IfSome found (λ found. ways_in found.ends.items ≡ [] ∷ [])) }
 {
+    if machine.is_finished() {
+        let end = PartFindings::of_end(room.alloc)?;
+        return Ok(Some(end));
+    }
     if depth == 0 {
         return Ok(None);
     }

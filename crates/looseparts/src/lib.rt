@@ -6,7 +6,7 @@
 //! 3. `find` runs each actor alone, with all whom it wakes. Actors whose steps aren't apart become one part, of which each is followed
 //!    first, and so on.
 //! 4. `repeats` leaves out ways that print the same as another and lead to a state that is alike, so that a race without an effect is one
-//!    way.
+//!    way. Each is gone again for that (`gone_way`).
 //! 5. `parts` begins that with all who wait.
 //!
 //! What the layer above uses: `ways_by_parts`, whose contract is that its ways cover whatever leads on from where the machine stands. The
@@ -16,6 +16,7 @@
 mod acting;
 mod find;
 mod found;
+mod gone_way;
 pub mod laws;
 mod parts;
 mod repeats;

@@ -6,28 +6,19 @@ ghost use Rattle.orders.specs.Alike.{IsInOrder};
 ghost use Rattle.loose.specs.Classes.{class_in};
 ghost use Rattle.regions.specs.Machine.{state_at};
 ghost use Rattle.statekeys.specs.ClassKeys.{IsClassKey};
+ghost use Rattle.looseparts.specs.GoneWays.{AreWaysKept, ComesTo, HasSame, IsWayGone, IsKeptOnce, StandAsWell, ways_of};
 ghost use Rattle.looseparts.specs.FoundWays.{ways_in};
 ghost use Rattle.looseparts.specs.StandTogether.{concern};
 ghost use Rattle.looseparts.specs.FoundGroups.{FoundStandsForAll};
-ghost use Rattle.looseparts.specs.GoneWays.{AreWaysKept, ComesTo, HasSame, IsWayGone, IsKeptOnce, StandAsWell, ways_of};
 
 use crate::acting::{copy_of, do_concern_all, take_step};
 use crate::found::PartFindings;
+use crate::gone_way::GoneWay;
 use crate::room::PartsRoom;
 use certificates::note::StepNote;
 use loose::transition::LooseTransition;
 use regions::Machine;
-use statekeys::class_key;
 use std::alloc::{AllocError, Global};
-
-/// A way that was gone again: its transitions, what they print, and the class key of the state that they lead to, or nothing where the run
-/// has finished there.
-#[derive(Drop)]
-pub(crate) struct GoneWay {
-    pub(crate) way: Vec<LooseTransition>,
-    pub(crate) lines: Vec<u8>,
-    pub(crate) key: Vec<u8>,
-}
 
 // Goes a way with a machine. Answers whether it did.
 fn go(
@@ -69,13 +60,7 @@ fn key_of(
     if machine.is_finished() {
         return Ok(key);
     }
-    class_key(
-        &mut key,
-        &mut room.scratch,
-        machine.state(),
-        machine.store(),
-        classes,
-    )?;
+    room.fill_key(&mut key, machine, classes)?;
     Ok(key)
 }
 
@@ -111,8 +96,8 @@ fn gone_with(
 // A way, gone again from where a machine stands, with a copy of it.
 fn gone_again(
     room: &mut PartsRoom,
-    classes: &[u32],
     machine: &Machine<'_>,
+    classes: &[u32],
     way: &[LooseTransition],
     over: bool,
 ) -> Result<Option<GoneWay>, AllocError>
@@ -161,8 +146,8 @@ fn keep_once(kept: &mut Vec<GoneWay>, gone: GoneWay) -> Result<(), AllocError>
 // Ways of which each of these comes to the same as one. None where too many steps were taken.
 fn kept_of(
     room: &mut PartsRoom,
-    classes: &[u32],
     machine: &Machine<'_>,
+    classes: &[u32],
     ways: &[Vec<LooseTransition>],
     over: bool,
 ) -> Result<Option<Vec<GoneWay>>, AllocError>
@@ -171,7 +156,7 @@ fn kept_of(
 {
     let mut kept = Vec::new(room.alloc);
     for way in ways {
-        match gone_again(room, classes, machine, way, over)? {
+        match gone_again(room, machine, classes, way, over)? {
             Some(gone) => keep_once(&mut kept, gone)?,
             None => return Ok(None),
         }
@@ -218,7 +203,7 @@ fn leave_out(
     if ways.len() < 2 {
         return Ok(());
     }
-    let kept = match kept_of(room, classes, machine, ways, over)? {
+    let kept = match kept_of(room, machine, classes, ways, over)? {
         Some(kept) => kept,
         None => return Ok(()),
     };

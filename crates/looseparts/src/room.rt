@@ -1,8 +1,9 @@
 //! What ways are found in.
 use certificates::note::StepNote;
 use loose::transition::LooseTransition;
-use statekeys::Scratch;
-use std::alloc::Global;
+use regions::Machine;
+use statekeys::{Scratch, class_key};
+use std::alloc::{AllocError, Global};
 use std::mem;
 use turn::TurnLog;
 
@@ -22,13 +23,17 @@ pub struct PartsRoom {
     pub(crate) alloc: Global,
     pub(crate) log: TurnLog,
     pub(crate) note: StepNote,
-    pub(crate) scratch: Scratch,
+    scratch: Scratch,
     steps: usize,
     again: usize,
     spare: usize,
 }
 
 impl PartsRoom {
+    ghost use Rattle.std.specs.Prelude.{OnOk};
+    ghost use Rattle.loose.specs.Classes.{class_in};
+    ghost use Rattle.statekeys.specs.ClassKeys.{IsClassKey};
+
     /// Room for the first state.
     pub fn new(alloc: Global) -> PartsRoom {
         PartsRoom {
@@ -40,6 +45,28 @@ impl PartsRoom {
             again: 0,
             spare: MOST_STEPS,
         }
+    }
+
+    /// Fills `bytes` with the class key of a machine's state.
+    ///
+    /// # Errors
+    ///
+    /// Where memory is refused.
+    pub fn fill_key(
+        &mut self,
+        bytes: &mut Vec<u8>,
+        machine: &Machine<'_>,
+        classes: &[u32],
+    ) -> Result<(), AllocError>
+        ensures { OnOk result (IsClassKey (class_in classes.now) machine.now.core machine.now.values bytes.new.items) }
+    {
+        class_key(
+            bytes,
+            &mut self.scratch,
+            machine.state(),
+            machine.store(),
+            classes,
+        )
     }
 
     /// Permits steps from the next state, in which so many actors wait: all that may be spent, unless that is too little to be worth a try.

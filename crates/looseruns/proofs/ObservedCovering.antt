@@ -22,7 +22,7 @@ use Rattle.explore.specs.declared.EndedPath.{EndedPath}
 use Rattle.looseruns.specs.LooseMoves.{move, moves_from, IsTimelyMove, AreTimelyMoves}
 use Rattle.looseruns.specs.LooseCover.{LeadToOneLooseNode, loose_ways_to}
 use Rattle.looseruns.specs.LooseGoing.{GoesLooselyTo}
-use Rattle.looseruns.specs.ObservedJournals.{Observer, SeenEnd, with_seen}
+use Rattle.looseruns.specs.ObservedJournals.{Observer, SeenEnd, effect_with_seen}
 use Rattle.looseruns.specs.ObservedMoves.{SeesAlike, seen_at_move, observed_move, observed_moves_from, StaysInTime, PassesTimeFirst, seen_first}
 use Rattle.looseruns.specs.ObservedRuns.{ComesObserved, MayEndObserved, observed_text_of_moves, ComeToOneObservedNode, StandsObserved}
 use Rattle.looseruns.specs.ObservedGoing.{GoesObservedTo}
@@ -120,8 +120,8 @@ lead_together class design limits observe run part way e s sees at_e j alike mov
     record { effect = a; goes = at_a; timely = timely; one_node = (refl, states_in-same class a.state); in_order = moves_keep_order class design (silent s) a part j at_a } in
     let to_b : GoesLooselyTo class design limits s way b =
     record { effect = b; goes = at_b; timely = timely'; one_node = (refl, states_in-same class b.state); in_order = moves_keep_order class design (silent s) b way j at_b } in
-    let a' : Effect = with_seen (seen_first observe s part) a in
-    let b' : Effect = with_seen (seen_first observe s way) b in
+    let a' : Effect = effect_with_seen (seen_first observe s part) a in
+    let b' : Effect = effect_with_seen (seen_first observe s way) b in
     let node : IsOneLooseNode class a' b' = (ap (λ l. l ++ a.lines) seen ∙ ap (λ l. seen_first observe s way ++ l) lines, near) in
     come_together class design limits observe run part way e a' b' s sees at_e j alike (loose_way_is_observed class design limits observe s part a first' to_a) (loose_way_is_observed class design limits observe s way b first to_b) node
 

@@ -14,7 +14,7 @@ use Rattle.loose.specs.LooseLaws.{IsOneLooseNode}
 use Rattle.loose.proofs.ClassStates.{states_in-same, states_in-sym, states_in-trans}
 use Rattle.looseruns.specs.LooseMoves.{IsTimelyMove}
 use Rattle.looseruns.specs.LooseGoing.{GoesLooselyTo}
-use Rattle.looseruns.specs.ObservedJournals.{Observer, with_seen}
+use Rattle.looseruns.specs.ObservedJournals.{Observer, effect_with_seen}
 use Rattle.looseruns.specs.ObservedMoves.{SeesAlike, seen_at_move, observed_move, observed_moves_from, StaysInTime, seen_first}
 use Rattle.looseruns.specs.ObservedRuns.{ComesObserved, EndsHereObserved, MayEndObserved, observed_text_of_moves, StandsObserved}
 use Rattle.looseruns.specs.ObservedGoing.{GoesObservedTo, NoObservedMoveStays, ObservedStepGoesOn, LooseWayIsObserved, ObservedWaysGoOn, ObservedMovesLeadToNext, ObservedMovesLeadToEnd, ObservedStandsAgain}
@@ -61,7 +61,7 @@ pub loose_way_is_observed : LooseWayIsObserved
 loose_way_is_observed class design limits observe s transitions g first goes =
     let seen = seen_first observe s transitions in
     record {
-      effect = with_seen seen goes.effect;
+      effect = effect_with_seen seen goes.effect;
       goes = seen_first_alone class design observe s goes.effect transitions first goes.goes;
       timely = goes.timely;
       one_node = (ap (λ l. seen ++ l) goes.one_node.0, goes.one_node.1);
@@ -71,9 +71,9 @@ loose_way_is_observed class design limits observe s transitions g first goes =
 pub observed_step_goes_on : ObservedStepGoesOn
 observed_step_goes_on class design limits observe s entry f transition i at_f timely its =
     let goes : GoesLooselyTo class design limits s (transition ∷ []) f = loose_step_goes_on class design limits s entry f transition i at_f timely its in
-    let observed : GoesObservedTo class design limits observe s (transition ∷ []) (with_seen (seen_at_move observe s transition) f) =
+    let observed : GoesObservedTo class design limits observe s (transition ∷ []) (effect_with_seen (seen_at_move observe s transition) f) =
     loose_way_is_observed class design limits observe s (transition ∷ []) f (All-nil StaysInTime) goes in
-    subst (λ l. GoesObservedTo class design limits observe s (transition ∷ []) (with_seen l f)) (entry_is_seen class observe s entry transition its) observed
+    subst (λ l. GoesObservedTo class design limits observe s (transition ∷ []) (effect_with_seen l f)) (entry_is_seen class observe s entry transition its) observed
 
 pub observed_ways_go_on : ObservedWaysGoOn
 observed_ways_go_on class design limits observe s f g transitions more sees i first second =

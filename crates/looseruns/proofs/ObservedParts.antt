@@ -18,7 +18,7 @@ use Rattle.loose.specs.declared.transition.LooseTransition.{LooseTransition}
 use Rattle.loose.specs.declared.transition.LooseTransition.TheVariants.{Process, FirstOf, Change}
 use Rattle.looseruns.specs.LooseMoves.{move, moves_from, IsTimelyMove, AreTimelyMoves}
 use Rattle.looseruns.specs.LooseRuns.{ComesOfMoves}
-use Rattle.looseruns.specs.ObservedJournals.{Observer, with_seen}
+use Rattle.looseruns.specs.ObservedJournals.{Observer, effect_with_seen}
 use Rattle.looseruns.specs.ObservedMoves.{seen_at_move, observed_move, observed_moves_from, observed_moves_run, StaysInTime, PassesTimeFirst, seen_first}
 use Rattle.looseruns.specs.ObservedRuns.{ComesObserved, observed_text_of_moves}
 use Rattle.looseruns.proofs.Observing.{observed_move_is_move, move_is_observed, observed_moves_keep_order}
@@ -90,7 +90,7 @@ plain_is_observed class design observe d e h (transition ∷ more) same is =
     option_and_then_some (λ x. moves_from class design (joined d x) more) (move class design d.state transition) h is
     (λ x at_x later.
     let here : move class design e.state transition ≡ Some x = subst (λ s. move class design s transition ≡ Some x) same at_x in
-    let y : Effect = with_seen (seen_at_move observe e.state transition) x in
+    let y : Effect = effect_with_seen (seen_at_move observe e.state transition) x in
     let (g, goes, state) = plain_is_observed class design observe (joined d x) (joined e y) h more refl later in
     (g, then_some (λ z. observed_moves_from class design observe (joined e z) more) (observed_move class design observe e.state transition) y g (move_is_observed class design observe e.state transition x here) goes, state))
 
@@ -121,9 +121,9 @@ move_unseen observe s (Process p) stays = refl
 move_unseen observe s (FirstOf c) stays = refl
 move_unseen observe s (Change entry) stays = entry_unseen observe s entry stays
 
-pub nothing_before : (seen : List ℕ) (o : Option Effect) → seen ≡ [] → option_map (with_seen seen) o ≡ o
+pub nothing_before : (seen : List ℕ) (o : Option Effect) → seen ≡ [] → option_map (effect_with_seen seen) o ≡ o
 nothing_before seen None none = refl
-nothing_before seen (Some f) none = ap (λ l. Some (with_seen l f)) none
+nothing_before seen (Some f) none = ap (λ l. Some (effect_with_seen l f)) none
 
 pub same_next : (go go' : Effect → Option Effect) (o o' : Option Effect) → o ≡ o' → ((f : Effect) → go f ≡ go' f) → option_and_then go o ≡ option_and_then go' o'
 same_next go go' None o' is same = ap (option_and_then go') is
@@ -138,20 +138,20 @@ unseen_moves class design observe e (transition ∷ more) stay =
     (λ f. unseen_moves class design observe (joined e f) more (All-tail StaysInTime transition more stay))
 
 -- moves after something was seen
-moves_after_seen : (class : ℕ → ℕ) (design : Design) (seen : List ℕ) (e g : Effect) (moves : List LooseTransition) → moves_from class design e moves ≡ Some g → moves_from class design (with_seen seen e) moves ≡ Some (with_seen seen g)
+moves_after_seen : (class : ℕ → ℕ) (design : Design) (seen : List ℕ) (e g : Effect) (moves : List LooseTransition) → moves_from class design e moves ≡ Some g → moves_from class design (effect_with_seen seen e) moves ≡ Some (effect_with_seen seen g)
 moves_after_seen class design seen e g moves is =
     let d : Effect = record { state = e.state; lines = seen; changes = [] } in
     moves_behind class design d e g moves is
 
 -- where time passes at the first transition of a way alone, or nowhere, what is seen there stands before its lines
 pub seen_first_alone : (class : ℕ → ℕ) (design : Design) (observe : Observer) (s : State) (g : Effect) (way : List LooseTransition) → PassesTimeFirst way → moves_from class design (silent s) way ≡ Some g
-    → observed_moves_from class design observe (silent s) way ≡ Some (with_seen (seen_first observe s way) g)
+    → observed_moves_from class design observe (silent s) way ≡ Some (effect_with_seen (seen_first observe s way) g)
 seen_first_alone class design observe s g [] first is = is
 seen_first_alone class design observe s g (transition ∷ more) first is =
     option_and_then_some (λ x. moves_from class design (joined (silent s) x) more) (move class design s transition) g is
     (λ x at_x later.
     let seen = seen_at_move observe s transition in
-    let y : Effect = with_seen seen x in
-    let goes : observed_moves_from class design observe (joined (silent s) y) more ≡ Some (with_seen seen g) =
+    let y : Effect = effect_with_seen seen x in
+    let goes : observed_moves_from class design observe (joined (silent s) y) more ≡ Some (effect_with_seen seen g) =
     unseen_moves class design observe (joined (silent s) y) more first ∙ moves_after_seen class design seen (joined (silent s) x) g more later in
-    then_some (λ z. observed_moves_from class design observe (joined (silent s) z) more) (observed_move class design observe s transition) y (with_seen seen g) (move_is_observed class design observe s transition x at_x) goes)
+    then_some (λ z. observed_moves_from class design observe (joined (silent s) z) more) (observed_move class design observe s transition) y (effect_with_seen seen g) (move_is_observed class design observe s transition x at_x) goes)

@@ -20,7 +20,7 @@ use Rattle.loose.proofs.ClassStates.{states_in-same, states_in-sym, states_in-tr
 use Rattle.explore.specs.Search.{IsShown}
 use Rattle.looseruns.specs.LooseMoves.{move, moves_from}
 use Rattle.looseruns.specs.LooseRunLaws.{HoldAlike}
-use Rattle.looseruns.specs.ObservedJournals.{Observer, SeesNothing, SeenEnd, seen_at, with_seen, observed_step, observed_run_from, observed_run}
+use Rattle.looseruns.specs.ObservedJournals.{Observer, SeesNothing, SeenEnd, seen_at, effect_with_seen, observed_step, observed_run_from, observed_run}
 use Rattle.looseruns.specs.ObservedMoves.{SeesAlike, seen_at_move, observed_move, observed_moves_from}
 use Rattle.looseruns.specs.ObservedRuns.{ComesObserved, EndsHereObserved, MayEndObserved, observed_text_of_moves, ComeToOneObservedNode, StandsObserved}
 use Rattle.looseruns.specs.ObservedLaws.{ObservedRunIsRun, NothingSeenIsPlain, AlikeObservedRunsServe, AlikeHeldObservedAreAlike, ObservedRunsBeginSilent, AllObservedShownAreAll, ObservedEndlessIsEndless}
@@ -58,9 +58,9 @@ from_is_observed design observe d e h (entry ∷ entries) same is =
     option_and_then_some (λ y. run_from design (joined e y) entries) (step design e.state entry) h is
     (λ y at_y later.
     let here : step design d.state entry ≡ Some y = subst (λ s. step design s entry ≡ Some y) (sym same.0) at_y in
-    let x : Effect = with_seen (seen_at observe d.state entry) y in
+    let x : Effect = effect_with_seen (seen_at observe d.state entry) y in
     let (g, goes, rest) = from_is_observed design observe (joined d x) (joined e y) h entries (same_behind d e x y same.1 (refl, refl)) later in
-    (g, then_some (λ z. observed_run_from design observe (joined d z) entries) (observed_step design observe d.state entry) x g (ap (option_map (with_seen (seen_at observe d.state entry))) here) goes, rest))
+    (g, then_some (λ z. observed_run_from design observe (joined d z) entries) (observed_step design observe d.state entry) x g (ap (option_map (effect_with_seen (seen_at observe d.state entry))) here) goes, rest))
 
 pub observed_run_is_run : ObservedRunIsRun
 observed_run_is_run design observe journal = (

@@ -17,7 +17,7 @@ use Rattle.loose.specs.LooseLaws.{IsOneLooseNode}
 use Rattle.loose.proofs.ClassStates.{states_in-same, states_in-trans}
 use Rattle.looseruns.specs.LooseMoves.{IsTimelyMove, AreTimelyMoves}
 use Rattle.looseruns.specs.LooseCover.{LeadToOneLooseNode}
-use Rattle.looseruns.specs.ObservedJournals.{Observer, SeenEnd, with_seen}
+use Rattle.looseruns.specs.ObservedJournals.{Observer, SeenEnd, effect_with_seen}
 use Rattle.looseruns.specs.ObservedMoves.{SeesAlike, observed_moves_from, PassesTimeFirst, seen_first}
 use Rattle.looseruns.specs.ObservedRuns.{EndsHereObserved}
 use Rattle.looseruns.specs.ObservedGoing.{GoesObservedTo}
@@ -46,8 +46,8 @@ lead_observed : (class : ℕ → ℕ) (design : Design) (limits : Limits) (obser
     → LeadToOneObservedNode class design limits observe s part way
 lead_observed class design limits observe s part way i ahead moved first (a, b, at_a, at_b, timely, (lines, near)) =
     let (first', seen) = begin_alike class design observe s part way a b i ahead moved at_a at_b near.time first in (
-      with_seen (seen_first observe s part) a,
-      with_seen (seen_first observe s way) b,
+      effect_with_seen (seen_first observe s part) a,
+      effect_with_seen (seen_first observe s way) b,
       seen_first_alone class design observe s a part first' at_a,
       seen_first_alone class design observe s b way first at_b,
       timely,

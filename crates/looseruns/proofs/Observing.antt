@@ -17,24 +17,24 @@ use Rattle.loose.specs.LooseLaws.{AreAlikeEffectsIn, IsOneLooseNode}
 use Rattle.loose.proofs.LooseSteps.{step_is_loose, loose_step_keeps_order}
 use Rattle.loose.proofs.ClassSteps.{effects_in-trans}
 use Rattle.looseruns.specs.LooseMoves.{move, IsTimelyMove, AreTimelyMoves}
-use Rattle.looseruns.specs.ObservedJournals.{Observer, seen_at, with_seen, observed_step, observed_run_from}
+use Rattle.looseruns.specs.ObservedJournals.{Observer, seen_at, effect_with_seen, observed_step, observed_run_from}
 use Rattle.looseruns.specs.ObservedMoves.{SeesAlike, seen_at_move, observed_move, observed_moves_from}
 use Rattle.looseruns.proofs.Moves.{loose_step_has_move, alike_in_states_move_alike, transition_is_timely, move_keeps_order}
 
 -- what something comes to without what was seen before it
-pub unseen : (seen : List ℕ) (o : Option Effect) (g : Effect) → option_map (with_seen seen) o ≡ Some g → (f : Effect) × (o ≡ Some f) × (with_seen seen f ≡ g)
+pub unseen : (seen : List ℕ) (o : Option Effect) (g : Effect) → option_map (effect_with_seen seen) o ≡ Some g → (f : Effect) × (o ≡ Some f) × (effect_with_seen seen f ≡ g)
 unseen seen None g is = cc
 unseen seen (Some f) g is = (f, refl, cc)
 
 -- an observed move is the move, with what is seen
 pub observed_move_is_move : (class : ℕ → ℕ) (design : Design) (observe : Observer) (s : State) (transition : LooseTransition) (g : Effect) → observed_move class design observe s transition ≡ Some g
-    → (f : Effect) × (move class design s transition ≡ Some f) × (with_seen (seen_at_move observe s transition) f ≡ g)
+    → (f : Effect) × (move class design s transition ≡ Some f) × (effect_with_seen (seen_at_move observe s transition) f ≡ g)
 observed_move_is_move class design observe s transition g is =
     unseen (seen_at_move observe s transition) (move class design s transition) g is
 
 pub move_is_observed : (class : ℕ → ℕ) (design : Design) (observe : Observer) (s : State) (transition : LooseTransition) (f : Effect) → move class design s transition ≡ Some f
-    → observed_move class design observe s transition ≡ Some (with_seen (seen_at_move observe s transition) f)
-move_is_observed class design observe s transition f is = ap (option_map (with_seen (seen_at_move observe s transition))) is
+    → observed_move class design observe s transition ≡ Some (effect_with_seen (seen_at_move observe s transition) f)
+move_is_observed class design observe s transition f is = ap (option_map (effect_with_seen (seen_at_move observe s transition))) is
 
 -- the same is seen in states that are alike
 
@@ -52,7 +52,7 @@ move_seen_alike class observe s t (FirstOf c) sees alike = refl
 move_seen_alike class observe s t (Change entry) sees alike = entry_seen_alike class observe s t entry sees alike
 
 -- the same is seen before what is alike
-pub alike_behind : (class : ℕ → ℕ) (seen seen' : List ℕ) (f g : Effect) → seen ≡ seen' → AreAlikeEffectsIn class f g → AreAlikeEffectsIn class (with_seen seen f) (with_seen seen' g)
+pub alike_behind : (class : ℕ → ℕ) (seen seen' : List ℕ) (f g : Effect) → seen ≡ seen' → AreAlikeEffectsIn class f g → AreAlikeEffectsIn class (effect_with_seen seen f) (effect_with_seen seen' g)
 alike_behind class seen seen' f g same (lines, changes, alike) = (ap (λ l. l ++ f.lines) same ∙ ap (λ l. seen' ++ l) lines, changes, alike)
 
 pub alike_in_states_observed : (class : ℕ → ℕ) (design : Design) (observe : Observer) (s t : State) (transition : LooseTransition) (f : Effect) → SeesAlike observe → IsInOrder s → IsInOrder t → AlikeIn class s t
@@ -61,7 +61,7 @@ alike_in_states_observed class design observe s t transition f sees i j alike mo
     let (x, at_x, same) = observed_move_is_move class design observe s transition f moved in
     let (y, at_y, near) = alike_in_states_move_alike class design s t transition x i j alike at_x in
     let seen = move_seen_alike class observe s t transition sees alike in
-    let g : Effect = with_seen (seen_at_move observe t transition) y in
+    let g : Effect = effect_with_seen (seen_at_move observe t transition) y in
     (g, move_is_observed class design observe t transition y at_y, subst (λ z. AreAlikeEffectsIn class z g) same (alike_behind class (seen_at_move observe s transition) (seen_at_move observe t transition) x y seen near))
 
 -- what is seen at an entry is seen at its transition
@@ -140,8 +140,8 @@ observed_step_has_move class design observe s entry f i is =
     let (x, at_x, same) = unseen (seen_at observe s entry) (step design s entry) f is in
     let loosely = step_is_loose class design s entry x at_x in
     let (transition, y, its, at_y, near) = loose_step_has_move class design s entry x i loosely in
-    let g : Effect = with_seen (seen_at_move observe s transition) y in
-    let alike : AreAlikeEffectsIn class (with_seen (seen_at observe s entry) x) g =
+    let g : Effect = effect_with_seen (seen_at_move observe s transition) y in
+    let alike : AreAlikeEffectsIn class (effect_with_seen (seen_at observe s entry) x) g =
     alike_behind class (seen_at observe s entry) (seen_at_move observe s transition) x y (sym (entry_is_seen class observe s entry transition its)) near in
     let order : IsInOrder x.state = loose_step_keeps_order class design s entry x i loosely in
     (transition, (g, its, move_is_observed class design observe s transition y at_y, subst (λ z. AreAlikeEffectsIn class z g) same alike, subst (λ (z : Effect). IsInOrder z.state) same order))

@@ -8,16 +8,16 @@ use Rattle.model.specs.Expressions.{Store}
 use Rattle.model.specs.States.{State, start}
 use Rattle.model.specs.Runs.{Effect, silent, joined, step, refusal, entry_refusal, effect}
 use Rattle.model.proofs.RunLaws.{unless_some, where_none}
-use Rattle.looseruns.specs.ObservedJournals.{Observer, with_seen, observed_step, observed_run_from}
+use Rattle.looseruns.specs.ObservedJournals.{Observer, effect_with_seen, observed_step, observed_run_from}
 use Rattle.looseruns.specs.ObservedMoves.{SeesAlike}
 use Rattle.looseruns.specs.ObservedEnding.{SeesOneFinish}
-use Rattle.looseruns.specs.RegisterObserver.{register_line, sight_mark, seen_unless_finished, RegistersAreSeenAlike, UnfinishedAreSeenAlike, UnfinishedTextIsText}
+use Rattle.looseruns.specs.RegisterObserver.{seen_register_line, sight_mark, seen_unless_finished, RegistersAreSeenAlike, UnfinishedAreSeenAlike, UnfinishedTextIsText}
 use Rattle.looseruns.proofs.ObservedParts.{same_next}
 
 pub registers_are_seen_alike : RegistersAreSeenAlike
 registers_are_seen_alike registers class s t alike =
-    ap (λ (n : ℕ). sight_mark ∷ decimal n ++ 10 ∷ flat_map (λ r. register_line s.store r) registers) alike.time
-    ∙ ap (λ (store : Store). sight_mark ∷ decimal t.time ++ 10 ∷ flat_map (λ r. register_line store r) registers) alike.store
+    ap (λ (n : ℕ). sight_mark ∷ decimal n ++ 10 ∷ flat_map (λ r. seen_register_line s.store r) registers) alike.time
+    ∙ ap (λ (store : Store). sight_mark ∷ decimal t.time ++ 10 ∷ flat_map (λ r. seen_register_line store r) registers) alike.store
 
 still_alike : (observe : Observer) → SeesAlike observe → SeesAlike (seen_unless_finished observe)
 still_alike observe sees class s t alike =
@@ -32,9 +32,9 @@ unfinished_are_seen_alike observe = (still_alike observe, one_finish observe)
 
 -- no time passes where a run has finished
 
-seen_same : (seen seen' : List ℕ) (o : Option Effect) → ((f : Effect) → o ≡ Some f → seen ≡ seen') → option_map (with_seen seen) o ≡ option_map (with_seen seen') o
+seen_same : (seen seen' : List ℕ) (o : Option Effect) → ((f : Effect) → o ≡ Some f → seen ≡ seen') → option_map (effect_with_seen seen) o ≡ option_map (effect_with_seen seen') o
 seen_same seen seen' None same = refl
-seen_same seen seen' (Some f) same = ap (λ l. Some (with_seen l f)) (same f refl)
+seen_same seen seen' (Some f) same = ap (λ l. Some (effect_with_seen l f)) (same f refl)
 
 unfinished_step : (design : Design) (observe : Observer) (s : State) (entry : Entry) → observed_step design (seen_unless_finished observe) s entry ≡ observed_step design observe s entry
 unfinished_step design observe s (Entry.Turn n) = refl

@@ -12,7 +12,7 @@ use Rattle.logic4.specs.Display.{digit_text, binary_text}
 use Rattle.model.specs.Expressions.{Store, value_of}
 use Rattle.model.specs.States.{State}
 use Rattle.model.specs.Runs.{last_time}
-use Rattle.looseruns.specs.RegisterObserver.{register_line, seen_registers}
+use Rattle.looseruns.specs.RegisterObserver.{seen_register_line, seen_registers}
 use Rattle.looseruns.specs.RegisterSights.{HaveSameRegisters, SightsTellRegisters}
 
 -- a byte is none of these
@@ -126,11 +126,11 @@ binary_same (d ∷ v) (e ∷ w) same =
 behind_line : (text more us : List ℕ) → ((text ++ 10 ∷ []) ++ more) ++ us ≡ text ++ 10 ∷ (more ++ us)
 behind_line text more us = ap (λ l. l ++ us) (append_assoc text (10 ∷ []) more) ∙ append_assoc text (10 ∷ more) us
 
-lines_same : (registers : List ℕ) (s t : Store) (us vs : List ℕ) → flat_map (register_line s) registers ++ us ≡ flat_map (register_line t) registers ++ vs → All (λ r. value_of s r ≡ value_of t r) registers × (us ≡ vs)
+lines_same : (registers : List ℕ) (s t : Store) (us vs : List ℕ) → flat_map (seen_register_line s) registers ++ us ≡ flat_map (seen_register_line t) registers ++ vs → All (λ r. value_of s r ≡ value_of t r) registers × (us ≡ vs)
 lines_same [] s t us vs same = (All-nil (λ r. value_of s r ≡ value_of t r), same)
 lines_same (r ∷ registers) s t us vs same =
-    let of_s = flat_map (register_line s) registers in
-    let of_t = flat_map (register_line t) registers in
+    let of_s = flat_map (seen_register_line s) registers in
+    let of_t = flat_map (seen_register_line t) registers in
     let apart = sym (behind_line (binary_text (value_of s r)) of_s us) ∙ (same ∙ behind_line (binary_text (value_of t r)) of_t vs) in
     let (here, later) = split_at 10 (binary_text (value_of s r)) (binary_text (value_of t r)) (of_s ++ us) (of_t ++ vs) (binary_without (value_of s r)) (binary_without (value_of t r)) apart in
     let (others, rest) = lines_same registers s t us vs later in
@@ -141,8 +141,8 @@ pub sights_same : (registers : List ℕ) (s t : State) (us vs : List ℕ) → s.
 sights_same registers s t us vs low low' same =
     let small : s.time < 2 ^ 64 = omega (arith, low) in
     let small' : t.time < 2 ^ 64 = omega (arith, low') in
-    let of_s = flat_map (register_line s.store) registers in
-    let of_t = flat_map (register_line t.store) registers in
+    let of_s = flat_map (seen_register_line s.store) registers in
+    let of_t = flat_map (seen_register_line t.store) registers in
     let inside : (decimal s.time ++ 10 ∷ of_s) ++ us ≡ (decimal t.time ++ 10 ∷ of_t) ++ vs = cc in
     let apart = sym (append_assoc (decimal s.time) (10 ∷ of_s) us) ∙ (inside ∙ append_assoc (decimal t.time) (10 ∷ of_t) vs) in
     let (time, later) = split_at 10 (decimal s.time) (decimal t.time) (of_s ++ us) (of_t ++ vs) (decimal_without s.time small) (decimal_without t.time small') apart in

@@ -15,7 +15,7 @@ use Rattle.model.specs.Runs.{Effect, silent, joined, step, run_from, refusal, re
 use Rattle.model.proofs.RunLaws.{unless_some, where_none}
 use Rattle.loose.proofs.LooseSteps.{step_is_loose}
 use Rattle.looseruns.specs.ObservedJournals.{Observer, seen_at, observed_step, observed_run_from, observed_run}
-use Rattle.looseruns.specs.RegisterObserver.{sight_mark, register_line, seen_registers}
+use Rattle.looseruns.specs.RegisterObserver.{sight_mark, seen_register_line, seen_registers}
 use Rattle.looseruns.specs.RegisterSights.{HaveSameRegisters, PrintsNoMark, OneTextIsOneWave}
 use Rattle.looseruns.proofs.FutureTimes.{IsAhead, IsAheadAt, time_after, loose_step_taken, ahead_loose_step, ahead_still}
 use Rattle.looseruns.proofs.ObservedSearches.{printing}
@@ -156,7 +156,7 @@ module _ (design : Design) (registers : List ℕ) (clean : PrintsNoMark design) 
 
   -- what is seen of a state, but for the mark
   abbrev unmarked : State → List ℕ
-  unmarked s = decimal s.time ++ 10 ∷ flat_map (λ r. register_line s.store r) registers
+  unmarked s = decimal s.time ++ 10 ∷ flat_map (λ r. seen_register_line s.store r) registers
 
   -- time passes somewhere among entries, where what is seen begins a text
   abbrev Found : State → List Entry → List ℕ → Type 0

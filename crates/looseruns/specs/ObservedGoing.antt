@@ -14,7 +14,7 @@ use Rattle.explore.specs.declared.EndedPath.{EndedPath}
 use Rattle.explore.specs.Search.{IsSuccessor, IsEndedPath}
 use Rattle.looseruns.specs.LooseMoves.{AreTimelyMoves}
 use Rattle.looseruns.specs.LooseGoing.{GoesLooselyTo}
-use Rattle.looseruns.specs.ObservedJournals.{Observer, SeenEnd, seen_at, with_seen}
+use Rattle.looseruns.specs.ObservedJournals.{Observer, SeenEnd, seen_at, effect_with_seen}
 use Rattle.looseruns.specs.ObservedMoves.{SeesAlike, observed_moves_from, PassesTimeFirst, seen_first}
 use Rattle.looseruns.specs.ObservedRuns.{EndsHereObserved, StandsObserved, observed_runs_of}
 
@@ -40,7 +40,7 @@ ObservedStepGoesOn =
     (class : ℕ → ℕ) (design : Design) (limits : Limits) (observe : Observer) (s : State) (entry : Entry) (f : Effect)
     (transition : LooseTransition) → IsInOrder s → loose_step class design s entry ≡ Some f → IsTimely limits entry
     → loose_transition_of class s entry ≡ Some transition
-    → GoesObservedTo class design limits observe s (transition ∷ []) (with_seen (seen_at observe s entry) f)
+    → GoesObservedTo class design limits observe s (transition ∷ []) (effect_with_seen (seen_at observe s entry) f)
 
 -- Where time passes on a way at its first transition alone, or nowhere, it leads to what it leads to unobserved, with what is seen at that
 -- transition before the lines.
@@ -48,7 +48,7 @@ abbrev pub LooseWayIsObserved : Type 0
 LooseWayIsObserved =
     (class : ℕ → ℕ) (design : Design) (limits : Limits) (observe : Observer) (s : State) (transitions : List LooseTransition) (g : Effect)
     → PassesTimeFirst transitions → GoesLooselyTo class design limits s transitions g
-    → GoesObservedTo class design limits observe s transitions (with_seen (seen_first observe s transitions) g)
+    → GoesObservedTo class design limits observe s transitions (effect_with_seen (seen_first observe s transitions) g)
 
 -- transitions lead on from where transitions have led, and what is printed and seen at them stands behind what was before
 abbrev pub ObservedWaysGoOn : Type 0

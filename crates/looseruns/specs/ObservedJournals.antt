@@ -29,12 +29,12 @@ seen_at observe s ActivateMonitor = []
 seen_at observe s (Advance time) = observe s
 
 -- an effect with what was seen before its lines
-abbrev pub with_seen : List ℕ → Effect → Effect
-with_seen seen e = record e { lines = seen ++ e.lines }
+abbrev pub effect_with_seen : List ℕ → Effect → Effect
+effect_with_seen seen e = record e { lines = seen ++ e.lines }
 
 -- one observed step: what comes of an entry that is permitted, and before its lines what is seen where it is taken
 abbrev pub observed_step : Design → Observer → State → Entry → Option Effect
-observed_step design observe s entry = option_map (with_seen (seen_at observe s entry)) (step design s entry)
+observed_step design observe s entry = option_map (effect_with_seen (seen_at observe s entry)) (step design s entry)
 
 -- what comes of the entries of a journal and is seen at them, after what came before them
 abbrev pub observed_run_from : Design → Observer → Effect → List Entry → Option Effect

@@ -10,7 +10,7 @@ use Rattle.loose.specs.declared.transition.LooseTransition.{LooseTransition}
 use Rattle.loose.specs.declared.transition.LooseTransition.TheVariants.{Process, FirstOf, Change}
 use Rattle.loose.specs.Loose.{AlikeIn}
 use Rattle.looseruns.specs.LooseMoves.{move}
-use Rattle.looseruns.specs.ObservedJournals.{Observer, seen_at, with_seen}
+use Rattle.looseruns.specs.ObservedJournals.{Observer, seen_at, effect_with_seen}
 
 -- it sees the same of states that are alike in classes, whatever the classes are
 abbrev pub SeesAlike : Observer → Type 0
@@ -24,7 +24,7 @@ seen_at_move observe s (Change entry) = seen_at observe s entry
 
 -- one observed move: what comes of a loose transition, and before its lines what is seen where it is taken
 abbrev pub observed_move : (ℕ → ℕ) → Design → Observer → State → LooseTransition → Option Effect
-observed_move class design observe s transition = option_map (with_seen (seen_at_move observe s transition)) (move class design s transition)
+observed_move class design observe s transition = option_map (effect_with_seen (seen_at_move observe s transition)) (move class design s transition)
 
 -- what comes of loose transitions and is seen at them, after what came before them
 abbrev pub observed_moves_from : (ℕ → ℕ) → Design → Observer → Effect → List LooseTransition → Option Effect

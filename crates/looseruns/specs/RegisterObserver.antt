@@ -9,8 +9,8 @@ use Rattle.looseruns.specs.ObservedMoves.{SeesAlike}
 use Rattle.looseruns.specs.ObservedEnding.{SeesOneFinish}
 
 -- the line of a register: its digits, the most significant first
-abbrev pub register_line : Store → ℕ → List ℕ
-register_line store r = binary_text (value_of store r) ++ 10 ∷ []
+abbrev pub seen_register_line : Store → ℕ → List ℕ
+seen_register_line store r = binary_text (value_of store r) ++ 10 ∷ []
 
 -- The byte with which what is seen begins. No printed line of ASCII has it, so that an observed text can be read back.
 abbrev pub sight_mark : ℕ
@@ -18,7 +18,7 @@ sight_mark = 128
 
 -- the mark, a line of the time in decimal, and then one of each of these registers
 abbrev pub seen_registers : List ℕ → Observer
-seen_registers registers s = sight_mark ∷ decimal s.time ++ 10 ∷ flat_map (λ r. register_line s.store r) registers
+seen_registers registers s = sight_mark ∷ decimal s.time ++ 10 ∷ flat_map (λ r. seen_register_line s.store r) registers
 
 -- what an observer sees of a state in which the run hasn't finished, and nothing where it has
 abbrev pub seen_unless_finished : Observer → Observer

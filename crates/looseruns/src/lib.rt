@@ -10,9 +10,8 @@
 //!    with what is seen are runs of a search, too (`ObservedRuns`), and ways cover them (`ObservedCover`, `ObservedSole`, `ObservedEnding`). One
 //!    observer sees the time and some registers (`RegisterObserver`), and its texts tell their values (`RegisterSights`).
 //!
-//! The definitions stand in `specs/`; `laws` and `observed_laws` carry what is proved, and `observed_end` has how an observed run ends.
+//! The definitions stand in `specs/`; `laws` carries what is proved, and `observed_end` has how an observed run ends.
 #![tactic(auto)]
 
 pub mod laws;
 pub mod observed_end;
-pub mod observed_laws;

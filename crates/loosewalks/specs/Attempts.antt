@@ -3,8 +3,8 @@ use Rattle.std.specs.Prelude.{ℕ, List}
 use Rattle.combinational.specs.declared.network.Network.{Network}
 use Rattle.regions.specs.Machine.{MachineView, state_at}
 use Rattle.settling.specs.Settling.{IsPhaseOf, ArePendingOrSettled, MayBeHeld}
-use Rattle.loosewalks.specs.declared.attempt.WayThrough.{WayThrough}
-use Rattle.loosewalks.specs.declared.attempt.WayThrough.TheVariants.{Phase, Certified, HeldSettled, Held, HeldRest}
+use Rattle.loosewalks.specs.declared.way_through.WayThrough.{WayThrough}
+use Rattle.loosewalks.specs.declared.way_through.WayThrough.TheVariants.{Phase, Certified, HeldSettled, Held, HeldRest}
 
 -- A way may be tried with these processes where a machine stands: one through a phase where they are its members, one while processes are
 -- held where these may be, and are pending or settled if they are held as such, and one by what is certified always.

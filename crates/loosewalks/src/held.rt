@@ -75,17 +75,24 @@ fn take_others(
     Ok(false)
 }
 
+/// What is held by a walk: these processes, until the others are done.
+#[derive(Clone, Copy)]
+pub(crate) struct HeldScope<'a> {
+    pub(crate) scope: WalkScope<'a>,
+    pub(crate) held: &'a [u32],
+}
+
 /// Takes all that is active: what is held comes last. Answers whether it came to where nothing is active, and the steps of the others
 /// certify each other and keep off what is held.
 pub(crate) fn take_held(
-    scope: WalkScope<'_>,
-    held: &[u32],
+    holding: HeldScope<'_>,
     room: &mut LooseRoom,
     machine: &mut Machine<'_>,
 ) -> Result<bool, AllocError>
-    ensures done { IfOk result (λ all. all ≡ true → (limits : Limits) → MayBeHeld machine.old.code (state_at machine.old) scope.entry.network.now held.now → HasHeld (class_in scope.entry.rules.classes.now) limits machine.old scope.entry.network.now held.now room.new.way.items machine.new) }
+    ensures done { IfOk result (λ all. all ≡ true → (limits : Limits) → MayBeHeld machine.old.code (state_at machine.old) holding.entry.scope.network.now holding.entry.held.now → HasHeld (class_in holding.entry.scope.rules.classes.now) limits machine.old holding.entry.scope.network.now holding.entry.held.now room.new.way.items machine.new) }
     ensures code { machine.new.code ≡ machine.old.code }
 {
+    let HeldScope { scope, held } = holding;
     let (_, evaluations) = machine.state().active();
     let pending = evaluated_processes(scope.alloc, evaluations)?;
     room.tried = held.len();
@@ -104,17 +111,17 @@ pub(crate) fn take_held(
 /// Takes all that is active likewise. Answers whether it came to where nothing is active, the steps of the others certify each other and keep
 /// off what is held, and what is held settles until there.
 pub(crate) fn take_held_until_settled(
-    scope: WalkScope<'_>,
-    held: &[u32],
+    holding: HeldScope<'_>,
     room: &mut LooseRoom,
     machine: &mut Machine<'_>,
 ) -> Result<bool, AllocError>
-    requires { IsNetworkOf machine.old.code scope.network.now }
-    ensures done { IfOk result (λ all. all ≡ true → (limits : Limits) → MayBeHeld machine.old.code (state_at machine.old) scope.entry.network.now held.now → HasHeldUntilSettled (class_in scope.entry.rules.classes.now) limits machine.old scope.entry.network.now held.now room.new.way.items machine.new) }
+    requires { IsNetworkOf machine.old.code holding.scope.network.now }
+    ensures done { IfOk result (λ all. all ≡ true → (limits : Limits) → MayBeHeld machine.old.code (state_at machine.old) holding.entry.scope.network.now holding.entry.held.now → HasHeldUntilSettled (class_in holding.entry.scope.rules.classes.now) limits machine.old holding.entry.scope.network.now holding.entry.held.now room.new.way.items machine.new) }
     ensures code { machine.new.code ≡ machine.old.code }
 {
+    let HeldScope { scope, held } = holding;
     let begin = Begin::of(scope.alloc, machine)?;
-    if !take_held(scope, held, room, machine)? {
+    if !take_held(holding, room, machine)? {
         return Ok(false);
     }
     if settle_since(scope.alloc, &begin, machine, scope.network, held)? {

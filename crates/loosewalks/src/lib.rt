@@ -1,8 +1,8 @@
 //! A walk of a search of loose runs, from where a machine stands, as long as one way stands for all.
 //!
 //! 1. `active` names the entry that a walk takes next: the only one that may be taken, or the first that is active. `taking` takes it.
-//! 2. `attempt` tries a way on the machine itself, where that may be tried: through a phase, by what is certified, or while processes are
-//!    held. Where the way doesn't stand for all, the machine goes back.
+//! 2. `way_through` has the ways that may be tried: through a phase, by what is certified, or while processes are held. `attempt` tries one on
+//!    the machine itself. Where it doesn't stand for all, the machine goes back.
 //! 3. `checkpoint` has what a walk goes back to: the machine as it was copied before a way was tried, from which the walk's moves since
 //!    are taken again. Another copy is made behind a way that failed, or as many moves on as a copy is long.
 //! 4. `phase` goes through a phase of combinational processes, up to its end.
@@ -30,6 +30,7 @@ mod room;
 mod rules;
 mod taking;
 mod walk;
+mod way_through;
 
 pub use checkpoint::copy_of;
 pub use room::LooseRoom;

@@ -12,11 +12,12 @@ ghost use Rattle.loosewalks.specs.Checkpoints.{AreOfCode, WalkGoesOn, moves_of};
 ghost use Rattle.loosewalks.specs.TimeStops.{StillPassesTimeFirst};
 
 use crate::active::only_entry;
-use crate::attempt::{WayThrough, go_by};
+use crate::attempt::go_by;
 use crate::checkpoint::{Walk, pending};
 use crate::room::{LooseRoom, WalkScope};
 use crate::rules::{WalkRules, WalkStops};
 use crate::taking::not_taken;
+use crate::way_through::WayThrough;
 use loose::transition::LooseTransition;
 use model::entry::Entry;
 use regions::Machine;

@@ -1,3 +1,5 @@
 pub mod Begins
+pub mod LineOrders
 pub mod Naming
 pub mod RaceWords
+pub mod TextOrders

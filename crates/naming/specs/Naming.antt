@@ -1,6 +1,6 @@
 -- Races that are told in lines.
-use Rattle.std.specs.Prelude.{◌≡◌, ℕ, ◌+◌, List, [], ◌∷◌, ◌++◌, drop, length, Option, Some, None, slice_get, string_bytes}
-use Rattle.std.specs.List.{All}
+use Rattle.std.specs.Prelude.{◌≡◌, ℕ, ◌+◌, Bool, IsTrue, not, List, [], ◌∷◌, ◌++◌, drop, length, map, take, Option, Some, None, slice_get, string_bytes}
+use Rattle.std.specs.List.{All, filter}
 use Rattle.model.specs.declared.entry.Entry.{Entry}
 use Rattle.model.specs.declared.end.End.{End}
 use Rattle.design.specs.Compiled.{Compiled}
@@ -8,6 +8,8 @@ use Rattle.explore.specs.declared.Shown.{Shown}
 use Rattle.runs.specs.declared.run.RunRecord.{RunRecord}
 use Rattle.causes.specs.declared.parting_race.PartingRace.{PartingRace}
 use Rattle.causes.specs.declared.causes.Causes.{Causes}
+use Rattle.causes.specs.Causes.{numbered_causes}
+use Rattle.races.specs.LineOrders.{is_line_order}
 use Rattle.races.specs.declared.told.Race as found_race
 use Rattle.conflicts.specs.declared.bounds.Bound.{Bound}
 use Rattle.races.specs.declared.told.Found.{Found}
@@ -21,6 +23,10 @@ use Rattle.verdict.specs.RaceLines.{prefix_of, race_text, unnamed_text}
 use Rattle.verdict.specs.CutLines.{cut_text}
 use Rattle.locations.specs.declared.location.ProcessLocation.{ProcessLocation}
 use Rattle.naming.specs.Begins.{AreProcessesOf, begin_of}
+use Rattle.naming.specs.declared.naming.ToldSoFar.{ToldSoFar}
+use Rattle.naming.specs.declared.line_orders.LineOrder.{LineOrder}
+use Rattle.naming.specs.LineOrders.{orders_text}
+use Rattle.naming.specs.TextOrders.{DifferInOrder, order_alone_text}
 use Rattle.naming.specs.RaceWords.{cut_of, access_word, IsSiteTold}
 
 -- a process is told by its number, where it begins among these, and what it does in words
@@ -66,10 +72,6 @@ AreEachTold IsTold number (x ∷ xs) [] = ⊥
 AreEachTold IsTold number [] (t ∷ ts) = ⊥
 AreEachTold IsTold number (x ∷ xs) (t ∷ ts) = IsTold number x t × AreEachTold IsTold (number + 1) xs ts
 
--- a race of a first run is told with a number
-abbrev pub IsFoundTold : List ProcessLocation → Compiled → List (Shown Entry End) → Option (List ℕ) → RunRecord → ℕ → found_race.Race → RaceDescription → Type 0
-IsFoundTold begins code shown prefix original number race told = IsRaceTold begins code shown prefix original number race told
-
 -- a race that parts texts is told with a number, by both of its runs
 abbrev pub IsCauseTold : List ProcessLocation → Compiled → List (Shown Entry End) → Option (List ℕ) → ℕ → PartingRace → RaceDescription → Type 0
 IsCauseTold begins code shown prefix number cause told = IsRaceTold begins code shown prefix cause.original number cause.race told
@@ -89,16 +91,72 @@ abbrev pub unnamed_lines : List ℕ → List ℕ
 unnamed_lines [] = []
 unnamed_lines (n ∷ ns) = unnamed_text n ++ unnamed_lines ns
 
--- What was found in the design of a source is told in these lines: races that part texts, and then those of a first run, one after another, each process by where
--- it begins, and by what the list of the latter was cut, if it was.
+-- a race for the order of lines, as it is told: its time, its two processes, and the journal in which they come the other way round
+pub record IsOrderOf (shown : List (Shown Entry End)) (race : found_race.Race) (order : LineOrder) : Type 0 where
+  pub time_is : order.time ≡ race.time
+  pub first_is : order.first ≡ race.first.process
+  pub second_is : order.second ≡ race.second.process
+  pub journal : IsJournalTold shown race.exchanged order.journal
+
+-- so is each of some races
+abbrev pub AreOrdersOf : List (Shown Entry End) → List PartingRace → List LineOrder → Type 0
+AreOrdersOf shown [] [] = Unit {0}
+AreOrdersOf shown (c ∷ cs) [] = ⊥
+AreOrdersOf shown [] (o ∷ os) = ⊥
+AreOrdersOf shown (c ∷ cs) (o ∷ os) = IsOrderOf shown c.race o × AreOrdersOf shown cs os
+
+-- a race that shows in a run
+abbrev pub parting_of : RunRecord → found_race.Race → PartingRace
+parting_of original race = record { original = original; race = race }
+
+-- those for the order of lines
+abbrev pub line_orders : List PartingRace → List PartingRace
+line_orders causes = filter (λ cause. is_line_order cause.race.site) causes
+
+-- those of a first run that have a number
+abbrev pub numbered_races : List found_race.Race → List found_race.Race
+numbered_races races = filter (λ race. not (is_line_order race.site)) races
+
+-- races that part texts, and behind them those of a first run
+abbrev pub all_races : List PartingRace → Found → List PartingRace
+all_races causes found = causes ++ map (parting_of found.original) found.races.items
+
+-- a race for the order of lines was kept
+pub record AddsOrder (shown : List (Shown Entry End)) (race : found_race.Race) (before after : ToldSoFar) : Type 0 where
+  pub order : LineOrder
+  pub is_order : IsOrderOf shown race order
+  pub orders_is : after.orders.items ≡ before.orders.items ++ order ∷ []
+  pub number_is : after.number ≡ before.number
+
+-- a text has grown by the lines on a race, with the next number
+pub record TellsNumbered (begins : List ProcessLocation) (code : Compiled) (shown : List (Shown Entry End)) (prefix : Option (List ℕ)) (original : RunRecord) (race : found_race.Race) (old new : List ℕ) (before after : ToldSoFar) : Type 0 where
+  pub told : RaceDescription
+  pub is_told : IsRaceTold begins code shown prefix original before.number race told
+  pub new_is : new ≡ old ++ race_text told
+  pub number_is : after.number ≡ before.number + 1
+  pub orders_is : after.orders.items ≡ before.orders.items
+
+-- A text has grown by the lines on those of some races that have a number, from the next one on, and the others, which are for the order of lines, were kept.
+pub record TellsSome (begins : List ProcessLocation) (code : Compiled) (shown : List (Shown Entry End)) (prefix : Option (List ℕ)) (races : List PartingRace) (old new : List ℕ) (before after : ToldSoFar) : Type 0 where
+  pub told : List RaceDescription
+  pub are_told : AreEachTold (IsCauseTold begins code shown prefix) before.number (numbered_causes races) told
+  pub new_is : new ≡ old ++ races_text told
+  pub number_is : after.number ≡ before.number + length (numbered_causes races)
+  pub kept : List LineOrder
+  pub are_kept : AreOrdersOf shown (line_orders races) kept
+  pub orders_is : after.orders.items ≡ before.orders.items ++ kept
+
+-- What was found in the design of a source is told in these lines: races that part texts, and behind them those of a first run, each process by where it begins.
+-- Those that aren't for the order of lines come first, one after another, with numbers, and then one line for each time of the others. Behind them stands by what the
+-- list of the first run's was cut, if it was.
 pub record TellsRaces (source : List ℕ) (code : Compiled) (shown : List (Shown Entry End)) (prefix : Option (List ℕ)) (race_bounds : RaceBounds) (found : Found) (causes : List PartingRace) (lines : List ℕ) : Type 0 where
   pub begins : List ProcessLocation
   pub of_source : AreProcessesOf source begins
-  pub parting : List RaceDescription
-  pub are_parting : AreEachTold (IsCauseTold begins code shown prefix) 1 causes parting
   pub told : List RaceDescription
-  pub are_told : AreEachTold (IsFoundTold begins code shown prefix found.original) (length causes + 1) found.races.items told
-  pub lines_is : lines ≡ races_text parting ++ (races_text told ++ list_end_text race_bounds found.cut)
+  pub are_told : AreEachTold (IsCauseTold begins code shown prefix) 1 (numbered_causes (all_races causes found)) told
+  pub kept : List LineOrder
+  pub are_kept : AreOrdersOf shown (line_orders (all_races causes found)) kept
+  pub lines_is : lines ≡ races_text told ++ (orders_text begins prefix kept ++ list_end_text race_bounds found.cut)
 
 -- a text has grown by lines that tell what was found
 pub record TellsBehind (source : List ℕ) (code : Compiled) (shown : List (Shown Entry End)) (prefix : Option (List ℕ)) (race_bounds : RaceBounds) (found : Found) (causes : List PartingRace) (old new : List ℕ) : Type 0 where
@@ -106,23 +164,32 @@ pub record TellsBehind (source : List ℕ) (code : Compiled) (shown : List (Show
   pub tells : TellsRaces source code shown prefix race_bounds found causes lines
   pub new_is : new ≡ old ++ lines
 
--- What was found behind so many races that part texts, and those of a first run, is told in these lines: the further races that part texts, for which texts
--- none was found, and by what their list was cut, if it was.
+-- how many have a number of the races of a first run, and of so many that part texts
+abbrev pub numbered_before : Found → ℕ → List PartingRace → ℕ
+numbered_before found before causes = length (numbered_races found.races.items) + length (numbered_causes (take before causes))
+
+-- a text has grown by the line that says that texts differ only in the order of lines at one time, and they do; or by none
+pub record TellsAlone (code : Compiled) (shown : List (Shown Entry End)) (old new : List ℕ) : Type 0 where
+  pub alone : Bool
+  pub is_alone : IsTrue alone → DifferInOrder code shown
+  pub new_is : new ≡ old ++ order_alone_text alone
+
+-- What was found behind so many races that part texts, and those of a first run, is told in these lines: the further races that part texts, with numbers behind those,
+-- then one line for each time of those for the order of lines, for which texts none was found, and by what their list was cut. The last line says that the texts differ only
+-- in the order of lines at one time, where it stands, and then they do.
 pub record TellsMore (source : List ℕ) (code : Compiled) (shown : List (Shown Entry End)) (prefix : Option (List ℕ)) (race_bounds : RaceBounds) (found : Found) (before : ℕ) (causes : Causes) (lines : List ℕ) : Type 0 where
   pub begins : List ProcessLocation
   pub of_source : AreProcessesOf source begins
-  pub parting : List RaceDescription
-  pub are_parting : AreEachTold (IsCauseTold begins code shown prefix) (length found.races.items + before + 1) (drop before causes.causes.items) parting
-  pub lines_is : lines ≡ races_text parting ++ (unnamed_lines causes.unnamed.items ++ list_end_text race_bounds causes.cut)
+  pub told : List RaceDescription
+  pub are_told : AreEachTold (IsCauseTold begins code shown prefix) (numbered_before found before causes.causes.items + 1) (numbered_causes (drop before causes.causes.items)) told
+  pub kept : List LineOrder
+  pub are_kept : AreOrdersOf shown (line_orders (drop before causes.causes.items)) kept
+  pub alone : Bool
+  pub is_alone : IsTrue alone → DifferInOrder code shown
+  pub lines_is : lines ≡ races_text told ++ (orders_text begins prefix kept ++ (unnamed_lines causes.unnamed.items ++ (list_end_text race_bounds causes.cut ++ order_alone_text alone)))
 
 -- a text has grown by such lines
 pub record TellsMoreBehind (source : List ℕ) (code : Compiled) (shown : List (Shown Entry End)) (prefix : Option (List ℕ)) (race_bounds : RaceBounds) (found : Found) (before : ℕ) (causes : Causes) (old new : List ℕ) : Type 0 where
   pub lines : List ℕ
   pub tells : TellsMore source code shown prefix race_bounds found before causes lines
   pub new_is : new ≡ old ++ lines
-
--- a text has grown by lines that tell each of some things, with numbers from one on
-pub record TellsEach {X : Type 0} (IsTold : ℕ → X → RaceDescription → Type 0) (number : ℕ) (xs : List X) (old new : List ℕ) : Type 0 where
-  pub told : List RaceDescription
-  pub are_told : AreEachTold IsTold number xs told
-  pub new_is : new ≡ old ++ races_text told

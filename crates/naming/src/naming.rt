@@ -1,19 +1,21 @@
 //! Races that were found, told in lines.
-ghost use Rattle.std.specs.Prelude.{◌≡◌, ◌≢◌, ◌↔◌, ◌≤◌, ◌+◌, ◌++◌, [], length, IfOk, IsTrue, OnOk, option_map, string_bytes};
+ghost use Rattle.std.specs.Prelude.{◌≡◌, ◌≢◌, ◌↔◌, ◌≤◌, ◌<◌, ◌+◌, ◌++◌, ◌∷◌, [], length, map, IfOk, IsTrue, OnOk, option_map, string_bytes};
 ghost use Rattle.tokens.specs.declared.cut.CutFault.TheVariants as faults;
 ghost use Rattle.naming.specs.Begins.{AreProcessesOf, begin_of};
-ghost use Rattle.naming.specs.Naming.{HasJournal, IsCauseTold, IsDifferenceTold, IsFoundTold, IsJournalTold, IsRaceTold, IsRoleTold, TellsBehind, TellsEach, TellsMoreBehind, list_end_text, unnamed_lines};
+ghost use Rattle.naming.specs.Naming.{AddsOrder, HasJournal, IsDifferenceTold, IsJournalTold, IsOrderOf, IsRaceTold, IsRoleTold, TellsBehind, TellsMoreBehind, TellsAlone, TellsNumbered, TellsSome, list_end_text, numbered_races, parting_of, unnamed_lines};
 
+use crate::alone::{differ_in_order, order_alone_line};
+use crate::line_orders::{LineOrder, push_orders};
 use crate::words::{cut_of, site_of, word_of};
 use accesses::are_same;
-use causes::{Causes, PartingRace};
+use causes::{Causes, PartingRace, numbered_count};
 use conflicts::{Bound, RaceBounds};
 use design::Design;
 use explore::Shown;
 use locations::processes;
 use model::end::End;
 use model::entry::Entry;
-use races::{Found, Race};
+use races::{Found, Race, is_line_order, numbers_of};
 use runs::run::RunRecord;
 use std::alloc::{AllocError, Global};
 use tokens::cut::CutFault;
@@ -41,8 +43,15 @@ struct Lines<'a> {
     other: &'a [u8],
 }
 
-/// Puts the lines on races that part texts behind a text, then those on races that were found in a first run, and the one that says by what the list of these was
-/// cut. Fails where memory is refused.
+/// How far races were told: the number of the next one, and those for the order of lines, which have none and are told behind the others.
+#[derive(Drop)]
+struct ToldSoFar {
+    number: usize,
+    orders: Vec<LineOrder>,
+}
+
+/// Puts the lines on races that part texts behind a text, then those on races that were found in a first run, those on races for the order of lines, and the one
+/// that says by what the list of the first run's was cut. Fails where memory is refused.
 pub fn push_races<'a>(
     alloc: Global,
     text: &mut Vec<u8>,
@@ -54,13 +63,27 @@ pub fn push_races<'a>(
 {
     let processes = processes_of(alloc, names.source)?;
     let begins = processes.as_slice();
-    push_parting(text, names, begins, 1, causes)?;
-    push_each(text, names, begins, causes.len(), found)?;
+    let mut told = told_before(alloc, 0);
+    push_parting(text, &mut told, names, begins, causes)?;
+    push_each(text, &mut told, names, begins, found)?;
+    push_orders(alloc, text, begins, names.prefix, told.orders.as_slice())?;
     push_end(text, names.race_bounds, found.cut)
 }
 
-/// Puts the lines on races that part texts, which were found behind so many of them and those of a first run, behind a text, then those on texts for which none was
-/// found, and the one that says by what their list was cut. Fails where memory is refused.
+/// None was told here, behind so many that have a number.
+fn told_before(alloc: Global, numbered: usize) -> ToldSoFar
+    requires { numbered < 18446744073709551615 }
+    ensures number { result.number ≡ numbered + 1 }
+    ensures none { result.orders.items ≡ [] }
+{
+    ToldSoFar {
+        number: numbered + 1,
+        orders: Vec::new(alloc),
+    }
+}
+
+/// Puts the lines on races that part texts, which were found behind so many of them and those of a first run, behind a text, then those on races for the order of
+/// lines, those on texts for which none was found, the one that says by what their list was cut, and one where texts differ only in the order of lines. Fails where memory is refused.
 pub fn push_more_races<'a>(
     alloc: Global,
     text: &mut Vec<u8>,
@@ -73,16 +96,15 @@ pub fn push_more_races<'a>(
     ensures { OnOk result (TellsMoreBehind names.entry.now.source.now names.entry.now.design.now names.entry.now.shown.now (option_map (λ path. path.now) names.entry.now.prefix) names.entry.now.race_bounds found.now before causes.entry.now text.old.items text.new.items) }
 {
     let processes = processes_of(alloc, names.source)?;
-    let (_, more) = causes.causes.as_slice().split_at(before);
-    push_parting(
-        text,
-        names,
-        &processes,
-        found.races.len() + before + 1,
-        more,
-    )?;
+    let begins = processes.as_slice();
+    let (early, more) = causes.causes.as_slice().split_at(before);
+    let numbered = numbered_found(found.races.as_slice()) + numbered_count(early);
+    let mut told = told_before(alloc, numbered);
+    push_parting(text, &mut told, names, begins, more)?;
+    push_orders(alloc, text, begins, names.prefix, told.orders.as_slice())?;
     push_unnamed_texts(text, causes.unnamed.as_slice())?;
-    push_end(text, names.race_bounds, causes.cut)
+    push_end(text, names.race_bounds, causes.cut)?;
+    push_alone(alloc, text, names.design, names.shown)
 }
 
 /// Puts the lines on texts for which no race was found behind a text.
@@ -95,27 +117,112 @@ fn push_unnamed_texts(text: &mut Vec<u8>, numbers: &[usize]) -> Result<(), Alloc
     Ok(())
 }
 
-/// Puts the lines on each race that parts texts behind a text, with numbers from this one on. Fails where memory is refused.
+/// How many races of a first run have a number when they are told.
+fn numbered_found(races: &[Race]) -> usize
+    ensures value { result ≡ length (numbered_races races.now) }
+    ensures few { result ≤ length races.now }
+{
+    let mut count: usize = 0;
+    for place in 0..races.len() {
+        count += numbers_of(&races[place]);
+    }
+    count
+}
+
+/// Puts the lines on each race that parts texts behind a text, with the next numbers, and keeps those for the order of lines. Fails where memory is refused.
 fn push_parting<'a>(
     text: &mut Vec<u8>,
+    told: &mut ToldSoFar,
     names: &RaceNames<'a>,
     processes: &[locations::ProcessLocation],
-    number: usize,
     causes: &'a [PartingRace],
 ) -> Result<(), AllocError>
-    requires { number + length causes.now ≤ 18446744073709551615 }
-    ensures { OnOk result (TellsEach (IsCauseTold processes.now names.entry.now.design.now names.entry.now.shown.now (option_map (λ path. path.now) names.entry.now.prefix)) number causes.entry.now text.old.items text.new.items) }
+    requires { told.old.number + length causes.now ≤ 18446744073709551615 }
+    ensures tells { OnOk result (TellsSome processes.now names.entry.now.design.now names.entry.now.shown.now (option_map (λ path. path.now) names.entry.now.prefix) causes.entry.now text.old.items text.new.items told.old told.new) }
+    ensures few { OnOk result (told.new.number ≤ told.old.number + length causes.now) }
 {
-    for (place, cause) in causes.iter().enumerate() {
-        let told = told_race(
-            names,
-            processes,
-            &cause.original,
-            &cause.race,
-            number + place,
-        );
-        push_race(text, &told)?;
+    for place in 0..causes.len() {
+        let cause = &causes[place];
+        push_told(text, told, names, processes, &cause.original, &cause.race)?;
     }
+    Ok(())
+}
+
+/// Puts the lines on a race behind a text, with the next number, or keeps it where it is for the order of lines. Fails where memory is refused.
+#[tactic(auto, using(crate::proofs::Races::numbered_tells, crate::proofs::Races::order_tells, crate::proofs::Races::numbered_few, crate::proofs::Races::order_few))]
+fn push_told<'a>(
+    text: &mut Vec<u8>,
+    told: &mut ToldSoFar,
+    names: &RaceNames<'a>,
+    processes: &[locations::ProcessLocation],
+    original: &'a RunRecord,
+    race: &'a Race,
+) -> Result<(), AllocError>
+    requires { told.old.number < 18446744073709551615 }
+    ensures tells { OnOk result (TellsSome processes.now names.entry.now.design.now names.entry.now.shown.now (option_map (λ path. path.now) names.entry.now.prefix) (parting_of original.entry.now race.entry.now ∷ []) text.old.items text.new.items told.old told.new) }
+    ensures few { OnOk result (told.new.number ≤ told.old.number + 1) }
+{
+    if is_line_order(race.site) {
+        keep_order(told, names.shown, race)
+    } else {
+        push_numbered(text, told, names, processes, original, race)
+    }
+}
+
+/// Keeps a race for the order of lines, which is told behind the others. Fails where memory is refused.
+fn keep_order(
+    told: &mut ToldSoFar,
+    shown: &[Shown<Entry, End>],
+    race: &Race,
+) -> Result<(), AllocError>
+    ensures { OnOk result (AddsOrder shown.now race.now told.old told.new) }
+{
+    let order = order_of(shown, race);
+    told.orders.push(order)?;
+    Ok(())
+}
+
+/// A race for the order of lines, as it is told.
+fn order_of(shown: &[Shown<Entry, End>], race: &Race) -> LineOrder
+    ensures { IsOrderOf shown.now race.now result }
+{
+    LineOrder {
+        time: race.time,
+        first: race.first.process,
+        second: race.second.process,
+        journal: journal_of(shown, &race.exchanged),
+    }
+}
+
+/// Puts the lines on a race behind a text, with the next number. Fails where memory is refused.
+fn push_numbered<'a>(
+    text: &mut Vec<u8>,
+    told: &mut ToldSoFar,
+    names: &RaceNames<'a>,
+    processes: &[locations::ProcessLocation],
+    original: &'a RunRecord,
+    race: &'a Race,
+) -> Result<(), AllocError>
+    requires { told.old.number < 18446744073709551615 }
+    ensures { OnOk result (TellsNumbered processes.now names.entry.now.design.now names.entry.now.shown.now (option_map (λ path. path.now) names.entry.now.prefix) original.entry.now race.entry.now text.old.items text.new.items told.old told.new) }
+{
+    let description = told_race(names, processes, original, race, told.number);
+    push_race(text, &description)?;
+    told.number += 1;
+    Ok(())
+}
+
+/// Says that texts differ only in the order of lines at one time, where they do. Fails where memory is refused.
+fn push_alone(
+    alloc: Global,
+    text: &mut Vec<u8>,
+    design: &Design,
+    shown: &[Shown<Entry, End>],
+) -> Result<(), AllocError>
+    ensures { OnOk result (TellsAlone design.now shown.now text.old.items text.new.items) }
+{
+    let alone = differ_in_order(alloc, design, shown)?;
+    text.extend_from_slice(order_alone_line(alone))?;
     Ok(())
 }
 
@@ -158,20 +265,20 @@ fn without_processes(
     }
 }
 
-/// Puts the lines on each race of a first run behind a text, with numbers behind those of so many others. Fails where memory is refused.
+/// Puts the lines on each race of a first run behind a text, with the next numbers, and keeps those for the order of lines. Fails where memory is refused.
 fn push_each<'a>(
     text: &mut Vec<u8>,
+    told: &mut ToldSoFar,
     names: &RaceNames<'a>,
     processes: &[locations::ProcessLocation],
-    before: usize,
     found: &'a Found,
 ) -> Result<(), AllocError>
-    requires { before ≤ 9223372036854775807 }
-    ensures { OnOk result (TellsEach (IsFoundTold processes.now names.entry.now.design.now names.entry.now.shown.now (option_map (λ path. path.now) names.entry.now.prefix) found.entry.now.original) (before + 1) found.entry.now.races.items text.old.items text.new.items) }
+    requires { told.old.number ≤ 9223372036854775808 }
+    ensures { OnOk result (TellsSome processes.now names.entry.now.design.now names.entry.now.shown.now (option_map (λ path. path.now) names.entry.now.prefix) (map (parting_of found.entry.now.original) found.entry.now.races.items) text.old.items text.new.items told.old told.new) }
 {
-    for (place, race) in found.races.iter().enumerate() {
-        let told = told_race(names, processes, &found.original, race, before + place + 1);
-        push_race(text, &told)?;
+    let races = found.races.as_slice();
+    for place in 0..races.len() {
+        push_told(text, told, names, processes, &found.original, &races[place])?;
     }
     Ok(())
 }

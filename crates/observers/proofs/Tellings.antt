@@ -11,7 +11,7 @@ use Rattle.regions.specs.declared.machine.TakeFault.{TakeFault}
 use Rattle.regions.specs.declared.machine.TakeFault.TheVariants as fault
 use Rattle.regions.specs.Machine.{MachineView, most_entries, state_at, IsNotTaken}
 use Rattle.regions.specs.StepLogs.{IsTaken}
-use Rattle.looseruns.specs.ObservedJournals.{Observer, seen_at, with_seen, observed_step, observed_run_from, observed_run}
+use Rattle.looseruns.specs.ObservedJournals.{Observer, seen_at, effect_with_seen, observed_step, observed_run_from, observed_run}
 use Rattle.observers.specs.Observations.{HasNoStep, HasSeen, IsTakenObserved}
 
 -- an entry that is taken
@@ -26,8 +26,8 @@ seen_step : (observe : Observer) (old : MachineView) (text : List ℕ) (entry : 
 seen_step observe old text entry lines new told taken before counted =
     let seen : List ℕ = seen_at observe (state_at old) entry in
     record {
-      effect = with_seen seen taken.effect;
-      is_step = ap (option_map (with_seen seen)) taken.is_step;
+      effect = effect_with_seen seen taken.effect;
+      is_step = ap (option_map (effect_with_seen seen)) taken.is_step;
       state_is = taken.state_is;
       prints = ap (λ l. told ++ l) taken.lines_are ∙ sym (append_assoc told lines taken.effect.lines) ∙ ap (λ l. l ++ taken.effect.lines) before
           ∙ append_assoc (text ++ old.lines) seen taken.effect.lines;

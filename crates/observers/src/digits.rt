@@ -1,5 +1,5 @@
 //! Numbers and values, digit by digit.
-ghost use Rattle.std.specs.Prelude.{◌≡◌, ◌++◌, OnOk, decimal};
+ghost use Rattle.std.specs.Prelude.{◌≡◌, ◌++◌, ◌∷◌, [], OnOk, decimal};
 ghost use Rattle.logic4.specs.Display.{binary_text, digit_text};
 
 use itoa::Buffer;
@@ -16,14 +16,14 @@ pub(crate) fn push_number(bytes: &mut Vec<u8>, number: u64) -> Result<(), AllocE
 }
 
 // The letter of a digit.
-fn letter(digit: Digit) -> &'static str
-    ensures { result.now ≡ digit_text digit }
+fn letter(digit: Digit) -> u8
+    ensures { digit_text digit ≡ result ∷ [] }
 {
     match digit {
-        Digit::Zero => "0",
-        Digit::One => "1",
-        Digit::X => "x",
-        Digit::Z => "z",
+        Digit::Zero => b'0',
+        Digit::One => b'1',
+        Digit::X => b'x',
+        Digit::Z => b'z',
     }
 }
 
@@ -32,7 +32,7 @@ pub(crate) fn push_digits(bytes: &mut Vec<u8>, value: Bits) -> Result<(), AllocE
     ensures { OnOk result (bytes.new.items ≡ bytes.old.items ++ binary_text value) }
 {
     for index in (0..value.width()).rev() {
-        bytes.extend_from_slice(letter(value.digit(index)).as_bytes())?;
+        bytes.push(letter(value.digit(index)))?;
     }
     Ok(())
 }

@@ -2,7 +2,7 @@
 ghost use Rattle.std.specs.Prelude.{◌≡◌, [], ◌∷◌, ◌++◌, OnOk, flat_map};
 ghost use Rattle.logic4.specs.Display.{binary_text};
 ghost use Rattle.regions.specs.Machine.{state_at};
-ghost use Rattle.looseruns.specs.RegisterObserver.{register_line, seen_registers, seen_unless_finished};
+ghost use Rattle.looseruns.specs.RegisterObserver.{seen_register_line, seen_registers, seen_unless_finished};
 ghost use Rattle.observers.specs.Observers.{observer_of};
 
 use crate::digits::{push_digits, push_number};
@@ -26,10 +26,10 @@ fn push_value(bytes: &mut Vec<u8>, value: Bits) -> Result<(), AllocError>
 // Puts the line of a register behind bytes, which is empty where there is no such register.
 fn push_register(
     bytes: &mut Vec<u8>,
-    register: RegId,
     machine: &Machine<'_>,
+    register: RegId,
 ) -> Result<(), AllocError>
-    ensures { OnOk result (bytes.new.items ≡ bytes.old.items ++ register_line machine.now.values register) }
+    ensures { OnOk result (bytes.new.items ≡ bytes.old.items ++ seen_register_line machine.now.values register) }
 {
     match machine.value(register) {
         Some(value) => push_value(bytes, value),
@@ -40,13 +40,13 @@ fn push_register(
 // Puts the lines of these registers behind bytes.
 fn push_registers(
     bytes: &mut Vec<u8>,
-    registers: &[RegId],
     machine: &Machine<'_>,
+    registers: &[RegId],
 ) -> Result<(), AllocError>
-    ensures { OnOk result (bytes.new.items ≡ bytes.old.items ++ flat_map (λ r. register_line machine.now.values r) registers.now) }
+    ensures { OnOk result (bytes.new.items ≡ bytes.old.items ++ flat_map (λ r. seen_register_line machine.now.values r) registers.now) }
 {
     for register in registers {
-        push_register(bytes, *register, machine)?;
+        push_register(bytes, machine, *register)?;
     }
     Ok(())
 }
@@ -54,29 +54,29 @@ fn push_registers(
 // Puts the mark, the line of the time, and those of these registers behind bytes.
 fn push_sight(
     bytes: &mut Vec<u8>,
-    registers: &[RegId],
     machine: &Machine<'_>,
+    registers: &[RegId],
 ) -> Result<(), AllocError>
     ensures { OnOk result (bytes.new.items ≡ bytes.old.items ++ seen_registers registers.now (state_at machine.now)) }
 {
     bytes.extend_from_slice(&[SIGHT_MARK])?;
     push_number(bytes, machine.time())?;
     bytes.extend_from_slice(b"\n")?;
-    push_registers(bytes, registers, machine)
+    push_registers(bytes, machine, registers)
 }
 
 // Puts what is seen of these registers behind bytes, and nothing where the run has finished.
 fn push_unless_finished(
     bytes: &mut Vec<u8>,
-    registers: &[RegId],
     machine: &Machine<'_>,
+    registers: &[RegId],
 ) -> Result<(), AllocError>
     ensures { OnOk result (bytes.new.items ≡ bytes.old.items ++ seen_unless_finished (seen_registers registers.now) (state_at machine.now)) }
 {
     if machine.is_finished() {
         return Ok(());
     }
-    push_sight(bytes, registers, machine)
+    push_sight(bytes, machine, registers)
 }
 
 /// Puts what an observer sees of where a machine stands behind bytes: nothing where lines alone are compared, or where the run has finished;
@@ -90,6 +90,6 @@ pub fn push_seen(
 {
     match observing {
         Observing::Lines => Ok(()),
-        Observing::Registers(registers) => push_unless_finished(bytes, registers, machine),
+        Observing::Registers(registers) => push_unless_finished(bytes, machine, registers),
     }
 }

@@ -27,8 +27,11 @@ use Rattle.program.specs.declared.ending.Ending.{Ending}
 use Rattle.program.specs.declared.ending.Ending.TheVariants as ending
 use Rattle.program.specs.declared.finding.SearchFinding.TheVariants as finding
 use Rattle.program.specs.Program.{IsNoRequestStatus, compared_ending, ended_status, ending_of, finding_status, help_text, right_text, status_of, stop_of, stop_status, version_text}
-use Rattle.program.specs.Printed.{AsksCheckOf, HasBegun, HasEnded, HasLeft, HasPrintedBy, HasRefused, HasRun, HasSavedSome, HasSearched, HasChecked, HasDumped, HasCompared, HasComparedFiles, HasExplainedPart, HasShown, HasWaves, HaveDiffered, IsDone, IsLeft, IsLeftByRun, IsRight, IsUnprinted, IsWrong, begun, checked, compared, helped, interrupted, ran, searched, untouched, versioned}
-use Rattle.program.specs.StandardError.{HasExplainedTold, IsEndTold, IsReported, IsUnfinished, IsWanting, nothing, of_fault, of_source, of_stop}
+use Rattle.program.specs.Printed.{AsksCheckOf, HasBegun, HasEnded, HasLeft, HasPrintedBy, HasRefused, HasRun, HasSavedSome, HasSearched, HasChecked, HasDumped, HasCompared, HasComparedFiles, HasExplainedPart, HasSearchedBy, HasShown, HasWaves, HaveDiffered, IsDone, IsLeft, IsLeftByRun, IsRight, IsUnprinted, IsWrong, begun, checked, compared, helped, interrupted, ran, searched, untouched, versioned, waves_begun}
+use Rattle.program.specs.Observed.{HasBegunWaves, HasLeftWaves, HasObserved}
+use Rattle.arguments.specs.Observing.{IsObserved}
+use Rattle.arguments.specs.declared.observed.Observed.TheVariants.{Lines}
+use Rattle.program.specs.StandardError.{HasExplainedTold, HasNamedNoRegister, IsEndTold, IsReported, IsUnfinished, IsWanting, nothing, of_fault, of_name, of_source, of_stop}
 use Rattle.program.proofs.Statuses.{not_of_fault, not_of_stop}
 use Rattle.journal.specs.declared.counted.Counted.{Counted}
 use Rattle.files.specs.Saved.{AddsFile, IsOpened, SavesAllWhereAsked, KeepsFiles, KeepsHeld, MadeFile, SavesSomeWhereAsked, SavesWhereAsked}
@@ -99,16 +102,48 @@ run_of_words holding words run old new files files' told asks h = record {
 }
 
 pub search_of_words : (holding : Option (List ℕ → List ℕ)) (words : List Text) (races : RacesRequest) (old new : Option (List ℕ)) (files files' : Option (List MadeFile)) (found : SearchFinding)
-    → AsksRaces words races → HasShown holding races.file.now races.search_options (option_map (λ path. path.now) races.journals) old new files files' found
+    → AsksRaces words races → races.observed ≡ Lines → HasShown holding races.file.now races.search_options (option_map (λ path. path.now) races.journals) old new files files' found
     → HasSearched holding words old new files files' found
-search_of_words holding words races old new files files' found asks h = record {
+search_of_words holding words races old new files files' found asks lines h = inl (record {
   begins = asks.begins;
   can_search = subst CanSearch asks.is_races.search_options asks.is_races.in_range;
   file = races.file.now;
   is_file = asks.is_races.file;
+  observed = subst (IsObserved (first_of (codes "observe") (races_rows (drop 1 words)))) lines asks.is_races.observed;
   shown = subst (λ (path : Option (List ℕ)). HasShown holding races.file.now (search_options_of (races_rows (drop 1 words))) path old new files files' found) (sym asks.is_races.journals)
       (subst (λ (search_options : SearchOptions). HasShown holding races.file.now search_options (option_map (λ path. path.now) races.journals) old new files files' found) asks.is_races.search_options h);
+})
+
+-- a search for waves ended so
+pub waves_of_words : (holding : Option (List ℕ → List ℕ)) (words : List Text) (races : RacesRequest) (old new : Option (List ℕ)) (files files' : Option (List MadeFile)) (e : Ending)
+    → AsksRaces words races → HasObserved holding races.file.now races.observed races.search_options (option_map (λ path. path.now) races.journals) old new files files' e
+    → HasSearchedBy holding words old new files files' e
+waves_of_words holding words races old new files files' e asks h = record {
+  begins = asks.begins;
+  can_search = subst CanSearch asks.is_races.search_options asks.is_races.in_range;
+  file = races.file.now;
+  is_file = asks.is_races.file;
+  asked = races.observed;
+  observed = asks.is_races.observed;
+  has_observed = subst (λ (path : Option (List ℕ)). HasObserved holding races.file.now races.observed (search_options_of (races_rows (drop 1 words))) path old new files files' e) (sym asks.is_races.journals)
+      (subst (λ (search_options : SearchOptions). HasObserved holding races.file.now races.observed search_options (option_map (λ path. path.now) races.journals) old new files files' e) asks.is_races.search_options h);
 }
+
+-- a search for waves ends as that of a command
+waves_ended : (holding : Option (List ℕ → List ℕ)) (words : List Text) (old new : Option (List ℕ)) (files files' : Option (List MadeFile)) (e : Ending) → HasSearchedBy holding words old new files files' e
+    → HasEnded holding words old new files files' e
+waves_ended holding words old new files files' ending.Done h = absurd h.has_observed.is_ending
+waves_ended holding words old new files files' (ending.Stopped s) h = absurd h.has_observed.is_ending
+waves_ended holding words old new files files' (ending.Found f) h = inr h
+waves_ended holding words old new files files' (ending.Wrong text) h = absurd h.has_observed.is_ending
+waves_ended holding words old new files files' (ending.NoRegister name) h = inl h
+waves_ended holding words old new files files' ending.Differ h = absurd h.has_observed.is_ending
+
+pub waves_performed_by : (holding : Option (List ℕ → List ℕ)) (words : List Text) (races : RacesRequest) (old new : Option (List ℕ)) (files files' : Option (List MadeFile)) (r : Result Ending CommandFault)
+    → AsksRaces words races → IfOk r (HasObserved holding races.file.now races.observed races.search_options (option_map (λ path. path.now) races.journals) old new files files')
+    → IfOk r (HasEnded holding words old new files files')
+waves_performed_by holding words races old new files files' (Ok e) asks h = waves_ended holding words old new files files' e (waves_of_words holding words races old new files files' e asks h)
+waves_performed_by holding words races old new files files' (Err f) asks h = tt
 
 pub some_saved_on : (a b c : Option (List MadeFile)) (prefix : Option (List ℕ)) (journals : List (List Entry)) → KeepsFiles a b
     → SavesSomeWhereAsked b c prefix journals → SavesSomeWhereAsked a c prefix journals
@@ -168,7 +203,7 @@ shown_on holding file search_options prefix old new a b c (Ok found) h k = recor
 shown_on holding file search_options prefix old new a b c (Err fault) h k = tt
 
 -- faults of output and of memory are none of a source
-pub output_kept : (K : Type 0) (r : Result SearchFinding CommandFault) → IfErr r (λ f. (status_of f ≡ 1) ⊎ (status_of f ≡ 6))
+pub output_kept : {T : Type 0} (K : Type 0) (r : Result T CommandFault) → IfErr r (λ f. (status_of f ≡ 1) ⊎ (status_of f ≡ 6))
     → IfErr r (λ f. (status_of f ≡ 3) ⊎ (status_of f ≡ 5) → K)
 output_kept K (Ok found) h = tt
 output_kept K (Err fault) h = λ e. absurd (neither (status_of fault) h e)
@@ -236,19 +271,26 @@ done_by_status holding words old new files files' (Ok (ending.Found finding.Unfi
 done_by_status holding words old new files files' (Ok (ending.Found finding.Memory)) h e = cc
 done_by_status holding words old new files files' (Ok (ending.Found finding.Several)) h e = cc
 done_by_status holding words old new files files' (Ok (ending.Wrong text)) h e = cc
+done_by_status holding words old new files files' (Ok (ending.NoRegister name)) h e = cc
 done_by_status holding words old new files files' (Ok ending.Differ) h e = cc
 done_by_status holding words old new files files' (Err f) h e = absurd (not_of_fault f 0 refl e)
 
-pub right_by_status : (ended : Result Ending CommandFault) → ended_status ended ≡ 2 → ⊥
-right_by_status (Ok ending.Done) e = cc
-right_by_status (Ok (ending.Stopped s)) e = not_of_stop s 2 refl e
-right_by_status (Ok (ending.Found finding.One)) e = cc
-right_by_status (Ok (ending.Found finding.Unfinished)) e = cc
-right_by_status (Ok (ending.Found finding.Memory)) e = cc
-right_by_status (Ok (ending.Found finding.Several)) e = cc
-right_by_status (Ok (ending.Wrong text)) e = cc
-right_by_status (Ok ending.Differ) e = cc
-right_by_status (Err f) e = not_of_fault f 2 refl e
+-- a name that no register has is the only end with that status
+pub unnamed_by_status : {E : Type 0} (holding : Option (List ℕ → List ℕ)) (words : List Text) (old new : Option (List ℕ)) (files files' : Option (List MadeFile)) (contents : E → Option (List ℕ))
+    (err err' : Counted E) (ended : Result Ending CommandFault)
+    → IfOk ended (HasEnded holding words old new files files') → IsEndTold contents err err' ended → ended_status ended ≡ 2
+    → HasNamedNoRegister holding words old new files files' contents err err'
+unnamed_by_status holding words old new files files' contents err err' (Ok ending.Done) h t e = cc
+unnamed_by_status holding words old new files files' contents err err' (Ok (ending.Stopped s)) h t e = absurd (not_of_stop s 2 refl e)
+unnamed_by_status holding words old new files files' contents err err' (Ok (ending.Found finding.One)) h t e = cc
+unnamed_by_status holding words old new files files' contents err err' (Ok (ending.Found finding.Unfinished)) h t e = cc
+unnamed_by_status holding words old new files files' contents err err' (Ok (ending.Found finding.Memory)) h t e = cc
+unnamed_by_status holding words old new files files' contents err err' (Ok (ending.Found finding.Several)) h t e = cc
+unnamed_by_status holding words old new files files' contents err err' (Ok (ending.Wrong text)) h t e = cc
+unnamed_by_status holding words old new files files' contents err err' (Ok (ending.NoRegister name)) (inl h) t e = record { name = string_bytes name; asked = inl (ending.NoRegister name, refl, h); told = t }
+unnamed_by_status holding words old new files files' contents err err' (Ok (ending.NoRegister name)) (inr h) t e = record { name = string_bytes name; asked = inr h; told = t }
+unnamed_by_status holding words old new files files' contents err err' (Ok ending.Differ) h t e = cc
+unnamed_by_status holding words old new files files' contents err err' (Err f) h t e = absurd (not_of_fault f 2 refl e)
 
 pub refused_by_status : (holding : Option (List ℕ → List ℕ)) (words : List Text) (old new : Option (List ℕ)) (files files' : Option (List MadeFile)) (ended : Result Ending CommandFault)
     → IfOk ended (HasEnded holding words old new files files') → IfErr ended (λ f. (status_of f ≡ 1) ⊎ (status_of f ≡ 6)) → ended_status ended ≡ 3
@@ -260,6 +302,7 @@ refused_by_status holding words old new files files' (Ok (ending.Found finding.U
 refused_by_status holding words old new files files' (Ok (ending.Found finding.Memory)) h k e = cc
 refused_by_status holding words old new files files' (Ok (ending.Found finding.Several)) h k e = cc
 refused_by_status holding words old new files files' (Ok (ending.Wrong text)) h k e = h
+refused_by_status holding words old new files files' (Ok (ending.NoRegister name)) h k e = cc
 refused_by_status holding words old new files files' (Ok ending.Differ) h k e = cc
 refused_by_status holding words old new files files' (Err f) h (inl one) e = absurd (omega (arith, one, e))
 refused_by_status holding words old new files files' (Err f) h (inr six) e = absurd (omega (arith, six, e))
@@ -274,6 +317,7 @@ faulty_by_status holding words old new contents err err' (Ok (ending.Found findi
 faulty_by_status holding words old new contents err err' (Ok (ending.Found finding.Memory)) h t e = cc
 faulty_by_status holding words old new contents err err' (Ok (ending.Found finding.Several)) h t e = cc
 faulty_by_status holding words old new contents err err' (Ok (ending.Wrong text)) h t e = cc
+faulty_by_status holding words old new contents err err' (Ok (ending.NoRegister name)) h t e = cc
 faulty_by_status holding words old new contents err err' (Ok ending.Differ) h t e = cc
 faulty_by_status holding words old new contents err err' (Err f) h t e = record { fault = f; explained = h e; told = t }
 
@@ -287,6 +331,7 @@ stopped_by_status holding words old new files files' contents err err' (Ok (endi
 stopped_by_status holding words old new files files' contents err err' (Ok (ending.Found finding.Memory)) h t e = cc
 stopped_by_status holding words old new files files' contents err err' (Ok (ending.Found finding.Several)) h t e = cc
 stopped_by_status holding words old new files files' contents err err' (Ok (ending.Wrong text)) h t e = cc
+stopped_by_status holding words old new files files' contents err err' (Ok (ending.NoRegister name)) h t e = cc
 stopped_by_status holding words old new files files' contents err err' (Ok ending.Differ) h t e = cc
 stopped_by_status holding words old new files files' contents err err' (Err f) h t e = absurd (not_of_fault f 4 refl e)
 
@@ -300,6 +345,7 @@ wanting_by_status holding words old new files files' contents err err' (Ok (endi
 wanting_by_status holding words old new files files' contents err err' (Ok (ending.Found finding.Memory)) h k t e = inl (inr (record { has_searched = h; told = t }))
 wanting_by_status holding words old new files files' contents err err' (Ok (ending.Found finding.Several)) h k t e = cc
 wanting_by_status holding words old new files files' contents err err' (Ok (ending.Wrong text)) h k t e = cc
+wanting_by_status holding words old new files files' contents err err' (Ok (ending.NoRegister name)) h k t e = cc
 wanting_by_status holding words old new files files' contents err err' (Ok ending.Differ) h k t e = cc
 wanting_by_status holding words old new files files' contents err err' (Err f) h k t e = inr (k e)
 
@@ -312,6 +358,7 @@ is_several (Ok (ending.Found finding.Unfinished)) e = cc
 is_several (Ok (ending.Found finding.Memory)) e = cc
 is_several (Ok (ending.Found finding.Several)) e = inl refl
 is_several (Ok (ending.Wrong text)) e = cc
+is_several (Ok (ending.NoRegister name)) e = cc
 is_several (Ok ending.Differ) e = inr refl
 is_several (Err f) e = absurd (not_of_fault f 7 refl e)
 
@@ -375,6 +422,8 @@ nothing_by_status holding words old new files files' (Ok ending.Done) h k e = ab
 nothing_by_status holding words old new files files' (Ok (ending.Stopped s)) h k e = absurd (no_stop s (source_status words (stop_status s) e))
 nothing_by_status holding words old new files files' (Ok (ending.Found found)) h k e = absurd (no_finding found (source_status words (finding_status found) e))
 nothing_by_status holding words old new files files' (Ok (ending.Wrong text)) h k e = h.unprinted
+nothing_by_status holding words old new files files' (Ok (ending.NoRegister name)) (inl h) k e = h.has_observed.is_ending.1
+nothing_by_status holding words old new files files' (Ok (ending.NoRegister name)) (inr h) k e = h.unprinted
 nothing_by_status holding words old new files files' (Ok ending.Differ) h k e = absurd (no_seven (source_status words 7 e))
 nothing_by_status holding words old new files files' (Err f) h k e = k e
 
@@ -385,6 +434,8 @@ unsaved_by_status holding words old new files files' (Ok ending.Done) h k e = ab
 unsaved_by_status holding words old new files files' (Ok (ending.Stopped s)) h k e = absurd (no_stop s e)
 unsaved_by_status holding words old new files files' (Ok (ending.Found found)) h k e = absurd (no_finding found e)
 unsaved_by_status holding words old new files files' (Ok (ending.Wrong text)) h k e = h.unsaved
+unsaved_by_status holding words old new files files' (Ok (ending.NoRegister name)) (inl h) k e = h.has_observed.is_ending.2
+unsaved_by_status holding words old new files files' (Ok (ending.NoRegister name)) (inr h) k e = h.unsaved
 unsaved_by_status holding words old new files files' (Ok ending.Differ) h k e = absurd (no_seven e)
 unsaved_by_status holding words old new files files' (Err f) h k e = k (of_source_or_journal f e)
 
@@ -400,6 +451,8 @@ silent_by_status contents err err' (Ok (ending.Found finding.Memory)) t (inr e) 
 silent_by_status contents err err' (Ok (ending.Found finding.Several)) t e = t
 silent_by_status contents err err' (Ok (ending.Wrong text)) t (inl e) = cc
 silent_by_status contents err err' (Ok (ending.Wrong text)) t (inr e) = cc
+silent_by_status contents err err' (Ok (ending.NoRegister name)) t (inl e) = cc
+silent_by_status contents err err' (Ok (ending.NoRegister name)) t (inr e) = cc
 silent_by_status contents err err' (Ok ending.Differ) t e = t
 silent_by_status contents err err' (Err f) t (inl e) = absurd (not_of_fault f 0 refl e)
 silent_by_status contents err err' (Err f) t (inr e) = absurd (not_of_fault f 7 refl e)
@@ -413,6 +466,8 @@ told_by_status holding contents err err' words old new files files' (Ok (ending.
 told_by_status holding contents err err' words old new files files' (Ok (ending.Found finding.Memory)) h t = of_fault faults.Memory refl t
 told_by_status holding contents err err' words old new files files' (Ok (ending.Found finding.Several)) h t = nothing (inr (inr refl)) t
 told_by_status holding contents err err' words old new files files' (Ok (ending.Wrong text)) h t = of_source h.begins refl (string_bytes text) t
+told_by_status holding contents err err' words old new files files' (Ok (ending.NoRegister name)) (inl h) t = of_name (inl h.begins) refl (string_bytes name) t
+told_by_status holding contents err err' words old new files files' (Ok (ending.NoRegister name)) (inr h) t = of_name (inr h.begins) refl (string_bytes name) t
 told_by_status holding contents err err' words old new files files' (Ok ending.Differ) h t = nothing (inr (inr refl)) t
 told_by_status holding contents err err' words old new files files' (Err f) h t = of_fault f refl t
 
@@ -435,6 +490,7 @@ is_done ending.Done = true
 is_done (ending.Stopped s) = false
 is_done (ending.Found found) = false
 is_done (ending.Wrong text) = false
+is_done (ending.NoRegister name) = false
 is_done ending.Differ = false
 
 not_done : ◌≡◌ {A = Bool} false true → ⊥
@@ -446,6 +502,7 @@ version_performed holding words old new files (Ok ending.Done) begins shown is =
 version_performed holding words old new files (Ok (ending.Stopped s)) begins shown is = absurd (not_done (ap is_done is))
 version_performed holding words old new files (Ok (ending.Found found)) begins shown is = absurd (not_done (ap is_done is))
 version_performed holding words old new files (Ok (ending.Wrong text)) begins shown is = absurd (not_done (ap is_done is))
+version_performed holding words old new files (Ok (ending.NoRegister name)) begins shown is = absurd (not_done (ap is_done is))
 version_performed holding words old new files (Ok ending.Differ) begins shown is = absurd (not_done (ap is_done is))
 version_performed holding words old new files (Err f) begins shown is = tt
 
@@ -500,6 +557,24 @@ left_of_search holding words races old new files files' asks (inr h) = begun (re
       (subst (λ (search_options : SearchOptions). HasBegun holding races.file.now search_options (option_map (λ path. path.now) races.journals) old new files files') asks.is_races.search_options h);
 })
 
+pub left_of_waves : (holding : Option (List ℕ → List ℕ)) (words : List Text) (races : RacesRequest) (old new : Option (List ℕ)) (files files' : Option (List MadeFile)) (r : Result Ending CommandFault) → AsksRaces words races
+    → IfErr r (λ f. status_of f ≡ 6 → HasLeftWaves holding races.file.now races.observed races.search_options (option_map (λ path. path.now) races.journals) old new files files')
+    → IfErr r (λ f. status_of f ≡ 6 → IsLeft holding words old new files files')
+left_of_waves holding words races old new files files' (Ok e) asks h = tt
+left_of_waves holding words races old new files files' (Err f) asks h = λ six. go (h six)
+  where
+    go : HasLeftWaves holding races.file.now races.observed races.search_options (option_map (λ path. path.now) races.journals) old new files files' → IsLeft holding words old new files files'
+    go (inl (k, s)) = untouched k s
+    go (inr left) = waves_begun (record {
+      begins = asks.begins;
+      file = races.file.now;
+      is_file = asks.is_races.file;
+      asked = races.observed;
+      observed = asks.is_races.observed;
+      begun = subst (λ (path : Option (List ℕ)). HasBegunWaves holding races.file.now races.observed (search_options_of (races_rows (drop 1 words))) path old new files files') (sym asks.is_races.journals)
+          (subst (λ (search_options : SearchOptions). HasBegunWaves holding races.file.now races.observed search_options (option_map (λ path. path.now) races.journals) old new files files') asks.is_races.search_options left);
+    })
+
 -- a journal is told up to its fault
 pub unless_told : (K : Type 0) (words : List Text) (r : Result Ending CommandFault) → Begins words (codes "explain") → IfErr r (λ f. status_of f ≡ 3 → K)
     → IfErr r (λ f. IsUnprinted words (status_of f) → K)
@@ -529,6 +604,7 @@ check_performed holding words path old new files files' (Ok ending.Done) asks ri
 check_performed holding words path old new files files' (Ok (ending.Stopped s)) asks right keeps shown is = absurd (not_done (ap is_done is))
 check_performed holding words path old new files files' (Ok (ending.Found found)) asks right keeps shown is = absurd (not_done (ap is_done is))
 check_performed holding words path old new files files' (Ok (ending.Wrong text)) asks right keeps shown is = absurd (not_done (ap is_done is))
+check_performed holding words path old new files files' (Ok (ending.NoRegister name)) asks right keeps shown is = absurd (not_done (ap is_done is))
 check_performed holding words path old new files files' (Ok ending.Differ) asks right keeps shown is = absurd (not_done (ap is_done is))
 check_performed holding words path old new files files' (Err f) asks right keeps shown is = tt
 

@@ -1,8 +1,9 @@
 -- Texts that are known, and texts that are added to them.
-use Rattle.std.proofs.Common.{◌≡◌, ◌⊎◌, ◌∙◌, inl, inr, sym, subst, refl, ℕ, ◌+◌, ◌<◌, ltb, Bool, true, false, IsTrue, IfSome, Option, None, ◌≤◌, List, [], length, get_or, Some, arith, string_bytes}
-use Rattle.std.specs.List.{All, AllPairs}
+use Rattle.std.proofs.Common.{◌≡◌, ◌⊎◌, ◌∙◌, inl, inr, sym, subst, refl, ℕ, ◌+◌, ◌<◌, ltb, Bool, true, false, IsTrue, IfSome, Option, None, ◌≤◌, List, [], ◌∷◌, ◌++◌, length, get_or, Some, arith, string_bytes}
+use Rattle.std.specs.List.{All, AllPairs, Contains}
 use Rattle.std.proofs.lemmas.Bool.{ltb-true, ltb-false}
 use Rattle.std.proofs.lemmas.List.{get_or_default}
+use Rattle.std.proofs.lemmas.List.Elements.{All-push, Contains-get_or}
 use Rattle.model.specs.declared.entry.Entry.{Entry}
 use Rattle.model.specs.declared.end.End.{End}
 use Rattle.model.specs.declared.end.Limits.{Limits}
@@ -40,6 +41,40 @@ run_lawful code limits r s whole same is =
       },
       subst (λ (j : List Entry). length j ≤ limits.max_entries) (sym same.2) is.few,
     )
+
+-- texts that are each one of those that were there or another one
+
+-- those that were there, alone
+pub each_before : {X : Type 0} (P : X → Type 0) (xs : List X) → All (λ x. Contains xs x ⊎ P x) xs
+each_before P xs k d lt = inl (Contains-get_or xs k d lt)
+
+-- and with another one
+pub each_pushed : {X : Type 0} (xs : List X) (one : X) → All (λ x. Contains xs x ⊎ (x ≡ one)) (xs ++ one ∷ [])
+each_pushed xs one = All-push (λ x. Contains xs x ⊎ (x ≡ one)) xs one (each_before (λ x. x ≡ one) xs) (inr refl)
+
+-- and with one of others, behind some of them
+pub each_more : {X : Type 0} (old others now new : List X) (one : X) → All (λ x. Contains old x ⊎ Contains others x) now → Contains others one → All (λ x. Contains now x ⊎ (x ≡ one)) new → All (λ x. Contains old x ⊎ Contains others x) new
+each_more {X} old others now new one before is each k d lt = of_one (get_or new k d) (each k d lt)
+  where
+    of_one : (x : X) → Contains now x ⊎ (x ≡ one) → Contains old x ⊎ Contains others x
+    of_one x (inl (i, within, at)) = subst (λ y. Contains old y ⊎ Contains others y) at (before i x within)
+    of_one x (inr same) = inr (subst (Contains others) (sym same) is)
+
+-- what holds of those that were there and of the other one holds of all
+pub all_with : {X : Type 0} (P : X → Type 0) (old new : List X) (one : X) → All (λ x. Contains old x ⊎ (x ≡ one)) new → P one → All P old → All P new
+all_with {X} P old new one each of_one of_old k d lt = by_case (get_or new k d) (each k d lt)
+  where
+    by_case : (x : X) → Contains old x ⊎ (x ≡ one) → P x
+    by_case x (inl (i, within, at)) = subst P at (of_old i x within)
+    by_case x (inr same) = subst P (sym same) of_one
+
+-- so it is of others
+pub all_of_each : {X : Type 0} (P : X → Type 0) (old others new : List X) → All (λ x. Contains old x ⊎ Contains others x) new → All P others → All P old → All P new
+all_of_each {X} P old others new each of_others of_old k d lt = by_case (get_or new k d) (each k d lt)
+  where
+    by_case : (x : X) → Contains old x ⊎ Contains others x → P x
+    by_case x (inl (i, within, at)) = subst P at (of_old i x within)
+    by_case x (inr (i, within, at)) = subst P at (of_others i x within)
 
 -- texts that are shown stay so where more is shown
 pub there_still : (shown shown' did : List (Shown Entry End)) → Extends shown shown' → All (λ s. IsShown shown s.text.items s.end) did → All (λ s. IsShown shown' s.text.items s.end) did

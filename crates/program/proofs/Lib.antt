@@ -9,3 +9,4 @@ pub mod Knowing
 pub mod Sampled
 pub mod Searched
 pub mod Statuses
+pub mod Waved

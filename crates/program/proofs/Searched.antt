@@ -1,6 +1,6 @@
 -- What a search has found, with what is claimed of it.
 use Rattle.std.proofs.Common.{◌≡◌, ◌⊎◌, ◌∙◌, ap, append_assoc, inl, inr, subst, sym, refl, ℕ, ◌+◌, ◌≤◌, ◌<◌, Bool, true, false, List, [], ◌∷◌, ◌++◌, length, map, get_or, Option, Some, None, option_map, Result, Ok, Err, IfErr, IfOk, IfSome, IsTrue, OnOk, arith}
-use Rattle.std.specs.List.{All, AllPairs}
+use Rattle.std.specs.List.{All, AllPairs, Contains}
 use Rattle.model.specs.declared.entry.Entry.{Entry}
 use Rattle.model.specs.declared.end.End.{End}
 use Rattle.model.specs.declared.end.Limits.{Limits}
@@ -32,7 +32,7 @@ use Rattle.program.specs.declared.racing.NamedRaces.{NamedRaces}
 use Rattle.program.specs.declared.racing.ToldRaces.{ToldRaces}
 use Rattle.program.specs.Printed.{HasFound, HasLeft, HasSavedSome, HasShown, IsToldFirst, IsToldLast, IsToldMore}
 use Rattle.program.specs.Program.{status_of}
-use Rattle.program.proofs.Knowing.{few_shown}
+use Rattle.program.proofs.Knowing.{all_of_each, few_shown}
 use Rattle.program.proofs.Ended.{all_saved_on, appends_then, kept_on, some_saved_on}
 use Rattle.program.proofs.Explained.{appends_kept}
 
@@ -56,7 +56,7 @@ claim_within search_options (Some stopped.Unfollowed) nodes endless count none f
 claim_within search_options (Some stopped.Bytes) nodes endless count none few full = (none, refl)
 claim_within search_options (Some stopped.Memory) nodes endless count none few full = none
 
-claim_all : (P : Type 0) (search_options : SearchOptions) (s : Option Stopped) (nodes : ℕ) (endless : Option ℕ) → (s ≡ None → P) → OnEvery (claim_of search_options s nodes endless) P
+pub claim_all : (P : Type 0) (search_options : SearchOptions) (s : Option Stopped) (nodes : ℕ) (endless : Option ℕ) → (s ≡ None → P) → OnEvery (claim_of search_options s nodes endless) P
 claim_all P search_options None nodes endless h = h refl
 claim_all P search_options (Some stopped.Nodes) nodes endless h = tt
 claim_all P search_options (Some stopped.Shown) nodes endless h = tt
@@ -74,7 +74,7 @@ claim_seeds P search_options (Some stopped.Bytes) nodes endless = tt
 claim_seeds P search_options (Some stopped.Memory) nodes endless = tt
 
 -- the journal of a run that comes to no end, and its number, where the search wasn't stopped
-claim_number : {J : Type 0} (items : J → List Entry) (search_options : SearchOptions) (s : Option Stopped) (nodes count : ℕ) (found told : Option J) (number : Option ℕ) → told ≡ unless_stopped s found
+pub claim_number : {J : Type 0} (items : J → List Entry) (search_options : SearchOptions) (s : Option Stopped) (nodes count : ℕ) (found told : Option J) (number : Option ℕ) → told ≡ unless_stopped s found
     → number ≡ option_map (λ j. count + 1) told → endless_number (claim_of search_options s nodes number) ≡ option_map (λ j. count + 1) (option_map items told)
 claim_number items search_options None nodes count found None number is counted = counted
 claim_number items search_options None nodes count found (Some j) number is counted = counted
@@ -89,7 +89,7 @@ claim_number items search_options (Some stopped.Bytes) nodes count found (Some j
 claim_number items search_options (Some stopped.Memory) nodes count found None number is counted = refl
 claim_number items search_options (Some stopped.Memory) nodes count found (Some j) number is counted = cc
 
-told_never : {J : Type 0} (items : J → List Entry) (P : List Entry → Type 0) (s : Option Stopped) (found told : Option J) → told ≡ unless_stopped s found → IfSome found (λ j. P (items j))
+pub told_never : {J : Type 0} (items : J → List Entry) (P : List Entry → Type 0) (s : Option Stopped) (found told : Option J) → told ≡ unless_stopped s found → IfSome found (λ j. P (items j))
     → IfSome (option_map items told) P
 told_never items P s found None is h = tt
 told_never items P None None (Some j) is h = cc
@@ -99,7 +99,7 @@ told_never items P None (Some k) (Some j) is h =
 told_never items P (Some s) found (Some j) is h = cc
 
 -- a search wasn't stopped, and each of its texts was put behind those that are known
-not_stopped : {E : Type 0} (s : Option Stopped) (added : Result Bool E) → search_stop_of s added ≡ None → (s ≡ None) × (added ≡ Ok true)
+pub not_stopped : {E : Type 0} (s : Option Stopped) (added : Result Bool E) → search_stop_of s added ≡ None → (s ≡ None) × (added ≡ Ok true)
 not_stopped s (Ok true) h = (h, refl)
 not_stopped None (Ok false) h = cc
 not_stopped (Some s) (Ok false) h = cc
@@ -112,7 +112,7 @@ shown_full s (Ok true) most others ss stops found distinct there full = omega (a
 shown_full s (Ok false) most others ss stops found distinct there full = omega (arith, full refl)
 shown_full s (Err e) most others ss stops found distinct there full = cc
 
-added_all : {E : Type 0} (added : Result Bool E) (P : Type 0) → added ≡ Ok true → IfOk added (λ all. IsTrue all → P) → P
+pub added_all : {E : Type 0} (added : Result Bool E) (P : Type 0) → added ≡ Ok true → IfOk added (λ all. IsTrue all → P) → P
 added_all (Ok true) P is h = h refl
 added_all (Ok false) P is h = cc
 added_all (Err e) P is h = cc
@@ -137,12 +137,12 @@ pub searched_found : {J E : Type 0} (items : J → List Entry) (code : Compiled)
     → search_options.samples ≡ None → nodes ≤ search_options.max_states → claim ≡ claim_of search_options t nodes number → t ≡ search_stop_of s added → told ≡ unless_stopped t found → number ≡ option_map (λ j. length ss + 1) told
     → All (λ o. IsLawfulText (design_of code) (limits_in search_options) o.moves.items o.text.items o.end) others → All (λ o. orders.IsWithinLimits (limits_in search_options) o.moves.items) others
     → AllPairs AreDistinct others → (s ≡ Some stopped.Shown → length others ≡ search_options.max_texts) → (s ≡ None → AreAllTexts (design_of code) (limits_in search_options) (IsShown others)) → IfSome found (λ j. orders.IsEndlessJournal (design_of code) (limits_in search_options) (items j))
-    → All (IsLawfulShown code (limits_in search_options)) known → ((c : Compiled) (l : Limits) → All (IsLawfulShown c l) others → All (IsLawfulShown c l) known → All (IsLawfulShown c l) ss)
+    → All (IsLawfulShown code (limits_in search_options)) known → All (λ s. Contains known s ⊎ Contains others s) ss
     → IfOk added (λ all. IsTrue all → All (λ o. IsShown ss o.text.items o.end) others) → IfOk added (λ all. all ≡ false → length ss ≡ search_options.max_texts) → AllPairs AreDistinct ss → length ss ≤ search_options.max_texts
     → AreFound code search_options claim ss (option_map items told)
 searched_found items code search_options s t nodes found told number claim added known others ss none few claimed stops tells counted sound within apart most all never lawful more there full distinct short =
     subst (λ (c : Claim). AreFound code search_options c ss (option_map items told)) (sym claimed) (record {
-      sound = claim_sound search_options t nodes number code (limits_in search_options) ss (more code (limits_in search_options) (lawful_within code (limits_in search_options) others sound within) lawful);
+      sound = claim_sound search_options t nodes number code (limits_in search_options) ss (all_of_each (IsLawfulShown code (limits_in search_options)) known others ss more (lawful_within code (limits_in search_options) others sound within) lawful);
       distinct = distinct;
       few = short;
       within = claim_within search_options t nodes number (length ss) none few (λ is. shown_full s added search_options.max_texts others ss (sym stops ∙ is) most apart there full);

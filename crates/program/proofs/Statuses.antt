@@ -129,5 +129,6 @@ at_most_seven (Ok (ending.Found finding.Unfinished)) = omega arith
 at_most_seven (Ok (ending.Found finding.Memory)) = omega arith
 at_most_seven (Ok (ending.Found finding.Several)) = omega arith
 at_most_seven (Ok (ending.Wrong text)) = omega arith
+at_most_seven (Ok (ending.NoRegister name)) = omega arith
 at_most_seven (Ok ending.Differ) = omega arith
 at_most_seven (Err f) = fault_few f

@@ -1,5 +1,5 @@
 -- What a command leaves on standard output and in files.
-use Rattle.std.specs.Prelude.{◌≡◌, ◌⊎◌, ◌<◌, ◌++◌, ℕ, Bool, true, false, List, Option, Some, None, codes, drop, length, string_bytes, unwrap_or}
+use Rattle.std.specs.Prelude.{◌≡◌, ◌⊎◌, ◌<◌, ◌++◌, ℕ, Bool, true, false, List, Option, Some, None, codes, drop, length, string_bytes}
 use Rattle.std.specs.Io.KnownBytes.{Appends, Keeps}
 use Rattle.design.specs.Compiled.{Compiled, design_of}
 use Rattle.model.specs.Syntax.{Module}
@@ -49,6 +49,11 @@ use Rattle.clap.specs.Words.{Row, Text, first_of}
 use Rattle.arguments.specs.Options.{CanRun, CanSearch}
 use Rattle.program.specs.declared.ending.Ending.{Ending}
 use Rattle.program.specs.declared.ending.Ending.TheVariants as ending
+use Rattle.arguments.specs.Observing.{IsObserved}
+use Rattle.arguments.specs.declared.observed.Observed.{Observed}
+use Rattle.arguments.specs.declared.observed.Observed.TheVariants.{Lines}
+use Rattle.program.specs.Observed.{HasBegunWaves, HasObserved}
+use Rattle.wavetexts.specs.Names.{NamesRegisters, NamesUnknown}
 use Rattle.program.specs.Program.{explain_fault, right_text, source_status_of, stop_of, version_text}
 use Rattle.files.specs.Saved.{AddsFile, IsHeld, IsOpened, MadeFile, KeepsFiles, SavesAllWhereAsked, SavesSomeWhereAsked, SavesWhereAsked}
 use Rattle.arguments.specs.CommandWords.{AsksHelp, Begins, check_rows, diff_rows, explain_rows, search_options_of, number_given, options_of, races_rows, replay_rows, run_rows, waves_rows}
@@ -191,14 +196,29 @@ pub record HasShown (holding : Option (List ℕ → List ℕ)) (file : List ℕ)
   pub saved : SavesAllWhereAsked files files' prefix (journals_of has_found.shown has_found.endless)
   pub finding : found ≡ finding_of has_found.claim (length has_found.shown)
 
--- The words ask for a search for races. Output and files are as a search of their FILE leaves them that goes as far as these words say and
--- saves journals at paths that begin with the PREFIX of these words, if they give one, and this was found.
-pub record HasSearched (holding : Option (List ℕ → List ℕ)) (words : List Text) (old new : Option (List ℕ)) (files files' : Option (List MadeFile)) (found : SearchFinding) : Type 0 where
+-- The words ask for a search for races, and to compare runs by their lines, in order. Output and files are as a search of their FILE leaves them that goes as far as these
+-- words say and saves journals at paths that begin with the PREFIX of these words, if they give one, and this was found.
+pub record HasSearchedTexts (holding : Option (List ℕ → List ℕ)) (words : List Text) (old new : Option (List ℕ)) (files files' : Option (List MadeFile)) (found : SearchFinding) : Type 0 where
   pub begins : Begins words (codes "races")
   pub can_search : CanSearch (search_options_of (races_rows (drop 1 words)))
   pub file : List ℕ
   pub is_file : NamesFile (races_rows (drop 1 words)) file
+  pub observed : IsObserved (first_of (codes "observe") (races_rows (drop 1 words))) Lines
   pub shown : HasShown holding file (search_options_of (races_rows (drop 1 words))) (first_of (codes "journals") (races_rows (drop 1 words))) old new files files' found
+
+-- The words ask for a search for races, and to observe something else of runs. Output and files are as a search for waves leaves them, and it ended so.
+pub record HasSearchedBy (holding : Option (List ℕ → List ℕ)) (words : List Text) (old new : Option (List ℕ)) (files files' : Option (List MadeFile)) (end : Ending) : Type 0 where
+  pub begins : Begins words (codes "races")
+  pub can_search : CanSearch (search_options_of (races_rows (drop 1 words)))
+  pub file : List ℕ
+  pub is_file : NamesFile (races_rows (drop 1 words)) file
+  pub asked : Observed
+  pub observed : IsObserved (first_of (codes "observe") (races_rows (drop 1 words))) asked
+  pub has_observed : HasObserved holding file asked (search_options_of (races_rows (drop 1 words))) (first_of (codes "journals") (races_rows (drop 1 words))) old new files files' end
+
+-- the words ask for a search for races, which found this of texts or of waves, by what is to be observed of runs
+abbrev pub HasSearched : Option (List ℕ → List ℕ) → List Text → Option (List ℕ) → Option (List ℕ) → Option (List MadeFile) → Option (List MadeFile) → SearchFinding → Type 0
+HasSearched holding words old new files files' found = HasSearchedTexts holding words old new files files' found ⊎ HasSearchedBy holding words old new files files' (ending.Found found)
 
 -- output and files are as they were
 abbrev pub AreUntouched : Option (List ℕ) → Option (List ℕ) → Option (List MadeFile) → Option (List MadeFile) → Type 0
@@ -235,6 +255,15 @@ pub record HasBegunSearch (holding : Option (List ℕ → List ℕ)) (words : Li
   pub is_file : NamesFile (races_rows (drop 1 words)) file
   pub begun : HasBegun holding file (search_options_of (races_rows (drop 1 words))) (first_of (codes "journals") (races_rows (drop 1 words))) old new files files'
 
+-- So it is of a search for waves, which said all of them, and of their journals a beginning was saved.
+pub record HasBegunWaveSearch (holding : Option (List ℕ → List ℕ)) (words : List Text) (old new : Option (List ℕ)) (files files' : Option (List MadeFile)) : Type 0 where
+  pub begins : Begins words (codes "races")
+  pub file : List ℕ
+  pub is_file : NamesFile (races_rows (drop 1 words)) file
+  pub asked : Observed
+  pub observed : IsObserved (first_of (codes "observe") (races_rows (drop 1 words))) asked
+  pub begun : HasBegunWaves holding file asked (search_options_of (races_rows (drop 1 words))) (first_of (codes "journals") (races_rows (drop 1 words))) old new files files'
+
 -- output grew by the lines of a journal that is lawful for the design that the source in a file describes, and what is in
 -- the journal's file, where that is known, is the text of this journal
 pub record HasReplayed (holding : Option (List ℕ → List ℕ)) (file journal : List ℕ) (old new : Option (List ℕ)) : Type 0 where
@@ -253,28 +282,59 @@ pub record HasPlayed (holding : Option (List ℕ → List ℕ)) (words : List Te
   pub is_journal : NamesJournal (replay_rows (drop 1 words)) journal
   pub replayed : HasReplayed holding file journal old new
 
--- Output grew by a journal in words, in this presentation: by a line for each entry that it has, and how the run stands behind them. The
--- journal is lawful for the design that the source in a file describes, and what is in the journal's file, where that is known, is its text.
-pub record HasExplained (holding : Option (List ℕ → List ℕ)) (file journal : List ℕ) (presentation : Presentation) (old new : Option (List ℕ)) : Type 0 where
+-- these are the registers of a design with the names of a list, where one is given, and else none are asked for
+abbrev pub AreAskedFor : Compiled → Option (List ℕ) → Option (List ℕ) → Type 0
+AreAskedFor design None registers = registers ≡ None
+AreAskedFor design (Some names) registers = (found : List ℕ) × (registers ≡ Some found) × NamesRegisters design.names names found
+
+-- Output grew by a journal in words, in this presentation: by a line for each entry that it has, of those alone that name one of the registers with
+-- these names, where names are given, and how the run stands behind them. The journal is lawful for the design that the source in a file describes, and
+-- what is in the journal's file, where that is known, is its text.
+pub record HasExplained (holding : Option (List ℕ → List ℕ)) (file journal : List ℕ) (names : Option (List ℕ)) (presentation : Presentation) (old new : Option (List ℕ)) : Type 0 where
   pub source : List ℕ
   pub held : IsHeld holding file source
   pub left : Option (List ℕ)
   pub opened : IsOpened holding journal left
   pub lawful : IsLawfulJournalText source left
-  pub explains : ExplainsText source presentation left old new
+  pub design : Compiled
+  pub registers : Option (List ℕ)
+  pub are_asked : AreAskedFor design names registers
+  pub explains : ExplainsText source design registers presentation left old new
 
 -- So it is of a journal up to its first entry that isn't taken, and output grew by why it isn't.
-pub record HasExplainedFault (holding : Option (List ℕ → List ℕ)) (file journal : List ℕ) (presentation : Presentation) (old new : Option (List ℕ)) (fault : ReplayFault) : Type 0 where
+pub record HasExplainedFault (holding : Option (List ℕ → List ℕ)) (file journal : List ℕ) (names : Option (List ℕ)) (presentation : Presentation) (old new : Option (List ℕ)) (fault : ReplayFault) : Type 0 where
   pub source : List ℕ
   pub held : IsHeld holding file source
   pub left : Option (List ℕ)
   pub opened : IsOpened holding journal left
-  pub explains : ExplainsTextFault source presentation left old new fault
+  pub design : Compiled
+  pub registers : Option (List ℕ)
+  pub are_asked : AreAskedFor design names registers
+  pub explains : ExplainsTextFault source design registers presentation left old new fault
 
 -- no journal was read, and output is as it was; or one was told up to its fault, and this is that fault
-abbrev pub HasExplainedSome : Option (List ℕ → List ℕ) → List ℕ → List ℕ → Presentation → Option (List ℕ) → Option (List ℕ) → CommandFault → Type 0
-HasExplainedSome holding file journal presentation old new f =
-    Keeps old new ⊎ ((fault : ReplayFault) × (f ≡ explain_fault (explaining.Replay fault)) × HasExplainedFault holding file journal presentation old new fault)
+abbrev pub HasExplainedSome : Option (List ℕ → List ℕ) → List ℕ → List ℕ → Option (List ℕ) → Presentation → Option (List ℕ) → Option (List ℕ) → CommandFault → Type 0
+HasExplainedSome holding file journal names presentation old new f =
+    Keeps old new ⊎ ((fault : ReplayFault) × (f ≡ explain_fault (explaining.Replay fault)) × HasExplainedFault holding file journal names presentation old new fault)
+
+-- this is the first of the names that are given which no register has, of the design that the source in a file describes
+pub record LacksRegister (holding : Option (List ℕ → List ℕ)) (file : List ℕ) (names : Option (List ℕ)) (name : List ℕ) : Type 0 where
+  pub source : List ℕ
+  pub held : IsHeld holding file source
+  pub design : Compiled
+  pub is_design : IsDesignOf source design
+  pub list : List ℕ
+  pub is_list : names ≡ Some list
+  pub unknown : NamesUnknown design.names name list
+
+-- the telling of a journal ends so: it was told, or a name is told that no register has, and output is as it was
+abbrev pub HasExplainedTo : Option (List ℕ → List ℕ) → List ℕ → List ℕ → Option (List ℕ) → Presentation → Option (List ℕ) → Option (List ℕ) → Ending → Type 0
+HasExplainedTo holding file journal names presentation old new ending.Done = HasExplained holding file journal names presentation old new
+HasExplainedTo holding file journal names presentation old new (ending.Stopped s) = ⊥
+HasExplainedTo holding file journal names presentation old new (ending.Found f) = ⊥
+HasExplainedTo holding file journal names presentation old new (ending.Wrong text) = ⊥
+HasExplainedTo holding file journal names presentation old new (ending.NoRegister name) = LacksRegister holding file names (string_bytes name) × Keeps old new
+HasExplainedTo holding file journal names presentation old new ending.Differ = ⊥
 
 -- The words name a FILE and a JOURNAL, and no journal was read, or theirs was told on theirs, in the presentation of these words, up to its fault, and this is that fault.
 pub record HasExplainedPart (holding : Option (List ℕ → List ℕ)) (words : List Text) (old new : Option (List ℕ)) (fault : CommandFault) : Type 0 where
@@ -282,7 +342,7 @@ pub record HasExplainedPart (holding : Option (List ℕ → List ℕ)) (words : 
   pub is_file : NamesFile (explain_rows (drop 1 words)) file
   pub journal : List ℕ
   pub is_journal : NamesJournal (explain_rows (drop 1 words)) journal
-  pub some : HasExplainedSome holding file journal (presentation_in words) old new fault
+  pub some : HasExplainedSome holding file journal (first_of (codes "registers") (explain_rows (drop 1 words))) (presentation_in words) old new fault
 
 -- The words ask to be told their JOURNAL on their FILE, and it was told in the presentation of these words.
 pub record HasExplainedByWords (holding : Option (List ℕ → List ℕ)) (words : List Text) (old new : Option (List ℕ)) (files files' : Option (List MadeFile)) : Type 0 where
@@ -291,7 +351,16 @@ pub record HasExplainedByWords (holding : Option (List ℕ → List ℕ)) (words
   pub is_file : NamesFile (explain_rows (drop 1 words)) file
   pub journal : List ℕ
   pub is_journal : NamesJournal (explain_rows (drop 1 words)) journal
-  pub explained : HasExplained holding file journal (presentation_in words) old new
+  pub explained : HasExplained holding file journal (first_of (codes "registers") (explain_rows (drop 1 words))) (presentation_in words) old new
+  pub unsaved : KeepsFiles files files'
+
+-- The words ask to be told a journal on their FILE, of registers by names of which this is the first that no register has, and output and files are as they were.
+pub record HasExplainedNone (holding : Option (List ℕ → List ℕ)) (words : List Text) (old new : Option (List ℕ)) (files files' : Option (List MadeFile)) (name : List ℕ) : Type 0 where
+  pub begins : Begins words (codes "explain")
+  pub file : List ℕ
+  pub is_file : NamesFile (explain_rows (drop 1 words)) file
+  pub lacks : LacksRegister holding file (first_of (codes "registers") (explain_rows (drop 1 words))) name
+  pub unprinted : Keeps old new
   pub unsaved : KeepsFiles files files'
 
 -- This is the value change dump of a journal on the design of a source: the text of the journal's wave, in a scope with the name of
@@ -433,6 +502,8 @@ HasEnded holding words old new files files' ending.Done = IsDone holding words o
 HasEnded holding words old new files files' (ending.Stopped stop) = HasRun holding words old new files files' (Some stop)
 HasEnded holding words old new files files' (ending.Found found) = HasSearched holding words old new files files' found
 HasEnded holding words old new files files' (ending.Wrong text) = HasRefused holding words old new files files'
+HasEnded holding words old new files files' (ending.NoRegister name) =
+    HasSearchedBy holding words old new files files' (ending.NoRegister name) ⊎ HasExplainedNone holding words old new files files' (string_bytes name)
 HasEnded holding words old new files files' ending.Differ = HasCompared holding words old new files files' false
 
 -- What is left where memory was refused, or a worker couldn't be started, before anything was done: output and files as they were; or of a search, what it left before
@@ -440,6 +511,7 @@ HasEnded holding words old new files files' ending.Differ = HasCompared holding 
 pub data IsLeft (holding : Option (List ℕ → List ℕ)) (words : List Text) (old new : Option (List ℕ)) (files files' : Option (List MadeFile)) : Type 0 where
   untouched : Keeps old new → KeepsFiles files files' → IsLeft holding words old new files files'
   begun : HasBegunSearch holding words old new files files' → IsLeft holding words old new files files'
+  waves_begun : HasBegunWaveSearch holding words old new files files' → IsLeft holding words old new files files'
   interrupted : Begins words (codes "explain") → KeepsFiles files files' → IsLeft holding words old new files files'
 
 -- At status 2 and 3 nothing is printed, and at 5 neither, unless a journal is told, up to its fault.

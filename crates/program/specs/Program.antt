@@ -78,7 +78,6 @@ status_of (fault.Journal side f) = journal_status_of f
 
 -- a fault of a journal that is told in words: that of a replay, where a replay has it
 abbrev pub explain_fault : ExplainFault → CommandFault
-explain_fault (explaining.Source f) = fault.Replay (replaying.Source f)
 explain_fault (explaining.Read f) = fault.Replay (replaying.Read f)
 explain_fault (explaining.Replay f) = fault.Replay (replaying.Replay f)
 explain_fault explaining.CannotWrite = fault.Replay replaying.CannotWrite
@@ -127,12 +126,13 @@ finding_status finding.Unfinished = 4
 finding_status finding.Memory = 6
 finding_status finding.Several = 7
 
--- 0 for what was done, 3 for a source with a fault, 7 for journals that differ
+-- 0 for what was done, 2 for a name that no register has, 3 for a source with a fault, 7 for journals that differ
 abbrev pub ending_status : Ending → ℕ
 ending_status ending.Done = 0
 ending_status (ending.Stopped s) = stop_status s
 ending_status (ending.Found f) = finding_status f
 ending_status (ending.Wrong text) = 3
+ending_status (ending.NoRegister name) = 2
 ending_status ending.Differ = 7
 
 -- a command that came to its end, or that met a fault

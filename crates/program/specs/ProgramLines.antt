@@ -103,6 +103,10 @@ file_line (file.CannotRead path) = program_line (codes "cannot read ") (shown_pa
 file_line file.CannotWrite = program_line (codes "cannot write") [] []
 file_line file.Memory = program_line (codes "memory") [] []
 
+-- a name that is to be observed and that no register has, with its control characters escaped
+abbrev pub no_register_line : List ℕ → List ℕ
+no_register_line name = program_line (codes "no register ") (shown_path name) []
+
 -- the line of a fault
 abbrev pub fault_line : CommandFault → List ℕ
 fault_line (fault.Files f) = file_line f

@@ -8,19 +8,20 @@ ghost use Rattle.program.specs.StandardError.{IsEndTold, IsEndingTold, IsFinding
 
 use crate::fault::{CommandFault, Stop};
 use crate::finding::SearchFinding;
-use crate::lines::{fault_line, stop_line};
+use crate::lines::{fault_line, no_register_line, stop_line};
 use journal::Counted;
 use std::io::Write;
 use telling::{tell, tell_text};
 
 /// A command did what was asked, or its run was stopped, or its search found this, or this is wrong with the source that it
-/// checked, or the journals that it compared differ.
+/// checked, or no register has a name that it was asked for, or the journals that it compared differ.
 #[derive(Drop)]
 pub enum Ending {
     Done,
     Stopped(Stop),
     Found(SearchFinding),
     Wrong(String),
+    NoRegister(String),
     Differ,
 }
 
@@ -54,6 +55,7 @@ impl Ending {
             Ending::Stopped(stop) => stop.status(),
             Ending::Found(finding) => finding.status(),
             Ending::Wrong(_) => 3,
+            Ending::NoRegister(_) => 2,
             Ending::Differ => 7,
         }
     }
@@ -73,7 +75,7 @@ pub fn finish<E: Write>(ended: Result<Ending, CommandFault<'_>>, err: &mut Count
     }
 }
 
-/// Tells a stop, want of memory in a search, or what is wrong with a source, and nothing of any other ending.
+/// Tells a stop, want of memory in a search, what is wrong with a source, or a name that no register has, and nothing of any other ending.
 fn tell_ending<E: Write>(ending: &Ending, err: &mut Counted<E>)
     ensures { IsEndingTold E.contents err.old err.new ending.now }
 {
@@ -82,6 +84,7 @@ fn tell_ending<E: Write>(ending: &Ending, err: &mut Counted<E>)
         Ending::Found(found) => tell_finding(*found, err),
         Ending::Stopped(stop) => tell(err, &stop_line(*stop)),
         Ending::Wrong(text) => tell_text(err, text.as_str()),
+        Ending::NoRegister(name) => tell(err, &no_register_line(name.as_str())),
     }
 }
 

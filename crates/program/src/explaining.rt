@@ -1,77 +1,165 @@
-//! `explain FILE JOURNAL`: FILE is read and JOURNAL opened. Then the journal is told in words, entry by entry, as it is taken.
+//! `explain FILE JOURNAL`: FILE is read and JOURNAL opened. Then the journal is told in words, entry by entry, as it is taken; or a name is told
+//! that no register of FILE has.
 
-ghost use Rattle.std.specs.Prelude.{◌≡◌, IfErr, List, OnOk, Option, ℕ};
+ghost use Rattle.std.specs.Prelude.{◌≡◌, IfErr, IfOk, List, OnOk, Option, Some, option_map, ℕ};
 ghost use Rattle.std.specs.Io.KnownBytes.{Keeps};
+ghost use Rattle.explain.specs.Wanted.{wanted_registers};
+ghost use Rattle.frontend.specs.Sources.{IsDesignOf};
 ghost use Rattle.journal.specs.Counted.{held};
 ghost use Rattle.files.specs.Saved.{IsHeld, IsOpened, KeepsFiles};
-ghost use Rattle.program.specs.Presentations.{presentation_for, told_style};
-ghost use Rattle.program.specs.Printed.{HasExplained, HasExplainedSome};
+ghost use Rattle.program.specs.Presentations.{presentation_for, style_for};
+ghost use Rattle.program.specs.Printed.{AreAskedFor, HasExplainedSome, HasExplainedTo};
+ghost use Rattle.program.specs.AskedRegisters.{AreAsked};
 ghost use Rattle.program.specs.Program.{explain_fault, status_of};
 
+use crate::ending::Ending;
 use crate::fault::CommandFault;
+use crate::observed::no_register;
 use arguments::ExplainRequest;
-use explain::{EntryStyle, ExplainFault, Presentation, explain};
+use design::{Design, RegId};
+use explain::{EntryStyle, ExplainFault, ExplainedSource, Presentation, explain};
 use files::{Files, open_file, read_file, send_off};
+use frontend::read_design;
 use journal::Counted;
-use literals::Radix;
 use progress::Progress;
 use replay::BytesFault;
-use std::alloc::Global;
+use std::alloc::{AllocError, Global};
 use std::io::{Read, Write};
+use wavetexts::{NamedRegisters, registers_named};
 
-/// Tells JOURNAL on FILE in words.
+/// Tells JOURNAL on FILE in words, or a name that no register has.
 pub fn explain_journal<'a, F: Files, O: Write>(
     alloc: Global,
     request: &ExplainRequest<'a>,
     files: &mut F,
     out: &mut O,
-) -> Result<(), CommandFault<'a>>
-    ensures explained { OnOk result (HasExplained (F.held files.old) request.now.file.now request.now.journal.now (presentation_for request.now) (O.contents out.old) (O.contents out.new)) }
-    ensures refused { IfErr result (λ fault. status_of fault ≡ 5 → HasExplainedSome (F.held files.old) request.now.file.now request.now.journal.now (presentation_for request.now) (O.contents out.old) (O.contents out.new) fault) }
+) -> Result<Ending, CommandFault<'a>>
+    ensures ended { IfOk result (HasExplainedTo (F.held files.old) request.now.file.now request.now.journal.now (option_map (λ names. names.now) request.now.registers) (presentation_for request.now) (O.contents out.old) (O.contents out.new)) }
+    ensures refused { IfErr result (λ fault. status_of fault ≡ 5 → HasExplainedSome (F.held files.old) request.now.file.now request.now.journal.now (option_map (λ names. names.now) request.now.registers) (presentation_for request.now) (O.contents out.old) (O.contents out.new) fault) }
     ensures nothing { IfErr result (λ fault. status_of fault ≡ 3 → Keeps (O.contents out.old) (O.contents out.new)) }
     ensures unsaved { KeepsFiles (F.made files.old) (F.made files.new) }
 {
     let source = read_file(alloc, request.file, files)?;
     let mut journal = Counted::new(open_file(request.journal, files)?);
-    explain_bytes(
-        alloc,
-        source.as_slice(),
-        &mut journal,
-        Presentation::between(request.from, request.to, style()),
-        out,
-        &files.progress_beside_output(),
-    )
+    let text = source.as_slice();
+    let design = read_design(alloc, text)?;
+    let subject = ExplainedSource {
+        source: text,
+        design: &design,
+        registers: None,
+    };
+    let progress = files.progress_beside_output();
+    explain_asked(alloc, subject, request, &mut journal, out, &progress)
 }
 
-/// The style in which a journal is told: binary values, and versions.
-fn style() -> EntryStyle
-    ensures { result ≡ told_style }
+/// Tells a journal that is left to read, of the registers alone that a request names, where it names any; or a name that no register has.
+fn explain_asked<R: Read, O: Write, P: Progress>(
+    alloc: Global,
+    subject: ExplainedSource<'_>,
+    request: &ExplainRequest<'_>,
+    journal: &mut Counted<R>,
+    out: &mut O,
+    progress: &P,
+) -> Result<Ending, CommandFault<'static>>
+    requires { IsDesignOf subject.source.now subject.design.now }
+    ensures ended { (holding : Option (List ℕ → List ℕ)) (file journal_file : List ℕ) → IsHeld holding file subject.entry.source.now → IsOpened holding journal_file (R.remaining (held journal.old)) → IfOk result (HasExplainedTo holding file journal_file (option_map (λ names. names.now) request.now.registers) (presentation_for request.now) (O.contents out.old) (O.contents out.new)) }
+    ensures refused { (holding : Option (List ℕ → List ℕ)) (file journal_file : List ℕ) → IsHeld holding file subject.entry.source.now → IsOpened holding journal_file (R.remaining (held journal.old)) → IfErr result (λ fault. status_of fault ≡ 5 → HasExplainedSome holding file journal_file (option_map (λ names. names.now) request.now.registers) (presentation_for request.now) (O.contents out.old) (O.contents out.new) fault) }
+    ensures nothing { IfErr result (λ fault. status_of fault ≡ 3 → Keeps (O.contents out.old) (O.contents out.new)) }
 {
-    EntryStyle {
-        radix: Radix::Binary,
-        versions: true,
+    let presentation = asked_presentation(request);
+    let asked = asked_registers(alloc, subject.design, request.registers)?;
+    match asked {
+        AskedRegisters::Every => {
+            let every = ExplainedSource {
+                registers: None,
+                ..subject
+            };
+            explain_bytes(alloc, every, journal, presentation, out, progress)
+        }
+        AskedRegisters::Named(registers) => {
+            let named = told_alone(subject.source, subject.design, registers.as_slice());
+            explain_bytes(alloc, named, journal, presentation, out, progress)
+        }
+        AskedRegisters::Unknown(name) => no_register(alloc, name),
     }
+}
+
+/// The design of a source, with the registers of which a journal is told alone.
+fn told_alone<'s>(
+    source: &'s [u8],
+    design: &'s Design,
+    registers: &'s [RegId],
+) -> ExplainedSource<'s>
+    ensures source { result.source.now ≡ source.entry.now }
+    ensures design { result.design.now ≡ design.entry.now }
+    ensures registers { wanted_registers result.registers ≡ Some registers.entry.now }
+{
+    ExplainedSource {
+        source,
+        design,
+        registers: Some(registers),
+    }
+}
+
+/// Of which registers a journal is asked to be told.
+#[derive(Drop)]
+enum AskedRegisters<'a> {
+    /// Of each.
+    Every,
+    /// Of these alone.
+    Named(Vec<RegId>),
+    /// Of a name that no register has.
+    Unknown(&'a str),
+}
+
+/// The registers that are asked for by the names of a list, where one is given, or the first of these names that no register has.
+fn asked_registers<'a>(
+    alloc: Global,
+    design: &Design,
+    names: Option<&'a str>,
+) -> Result<AskedRegisters<'a>, AllocError>
+    ensures { IfOk result (AreAsked design.now (option_map (λ names. names.now) names.entry)) }
+{
+    let Some(names) = names else {
+        return Ok(AskedRegisters::Every);
+    };
+    match registers_named(alloc, design, names)? {
+        NamedRegisters::All(registers) => Ok(AskedRegisters::Named(registers)),
+        NamedRegisters::Unknown(name) => Ok(AskedRegisters::Unknown(name)),
+    }
+}
+
+/// How the words ask for a journal to be told.
+fn asked_presentation(request: &ExplainRequest<'_>) -> Presentation
+    ensures { result ≡ presentation_for request.now }
+{
+    let style = EntryStyle {
+        radix: request.radix,
+        versions: request.versions,
+    };
+    Presentation::between(request.from, request.to, style)
 }
 
 /// Tells a journal that is left to read on the design of a source.
 fn explain_bytes<R: Read, O: Write, P: Progress>(
     alloc: Global,
-    source: &[u8],
+    subject: ExplainedSource<'_>,
     journal: &mut Counted<R>,
     presentation: Presentation,
     out: &mut O,
     progress: &P,
-) -> Result<(), CommandFault<'static>>
-    ensures explained { (holding : Option (List ℕ → List ℕ)) (file journal_file : List ℕ) → IsHeld holding file source.now → IsOpened holding journal_file (R.remaining (held journal.old)) → OnOk result (HasExplained holding file journal_file presentation (O.contents out.old) (O.contents out.new)) }
-    ensures refused { (holding : Option (List ℕ → List ℕ)) (file journal_file : List ℕ) → IsHeld holding file source.now → IsOpened holding journal_file (R.remaining (held journal.old)) → IfErr result (λ fault. status_of fault ≡ 5 → HasExplainedSome holding file journal_file presentation (O.contents out.old) (O.contents out.new) fault) }
+) -> Result<Ending, CommandFault<'static>>
+    requires { IsDesignOf subject.source.now subject.design.now }
+    ensures ended { (holding : Option (List ℕ → List ℕ)) (file journal_file : List ℕ) (names : Option (List ℕ)) → IsHeld holding file subject.entry.source.now → IsOpened holding journal_file (R.remaining (held journal.old)) → AreAskedFor subject.entry.design.now names (wanted_registers subject.entry.registers) → IfOk result (HasExplainedTo holding file journal_file names presentation (O.contents out.old) (O.contents out.new)) }
+    ensures refused { (holding : Option (List ℕ → List ℕ)) (file journal_file : List ℕ) (names : Option (List ℕ)) → IsHeld holding file subject.entry.source.now → IsOpened holding journal_file (R.remaining (held journal.old)) → AreAskedFor subject.entry.design.now names (wanted_registers subject.entry.registers) → IfErr result (λ fault. status_of fault ≡ 5 → HasExplainedSome holding file journal_file names presentation (O.contents out.old) (O.contents out.new) fault) }
     ensures nothing { IfErr result (λ fault. status_of fault ≡ 3 → Keeps (O.contents out.old) (O.contents out.new)) }
 {
-    let told = explain(alloc, source, journal, presentation, out, progress);
+    let told = explain(alloc, subject, journal, presentation, out, progress);
     progress.end();
     match told {
         Ok(()) => {
             send_off(out)?;
-            Ok(())
+            Ok(Ending::Done)
         }
         Err(fault) => Err(told_fault(fault)),
     }
@@ -82,7 +170,6 @@ fn told_fault(fault: ExplainFault) -> CommandFault<'static>
     ensures { result ≡ explain_fault fault }
 {
     match fault {
-        ExplainFault::Source(fault) => CommandFault::Replay(BytesFault::Source(fault)),
         ExplainFault::Read(fault) => CommandFault::Replay(BytesFault::Read(fault)),
         ExplainFault::Replay(fault) => CommandFault::Replay(BytesFault::Replay(fault)),
         ExplainFault::CannotWrite => CommandFault::Replay(BytesFault::CannotWrite),

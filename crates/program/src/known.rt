@@ -1,7 +1,7 @@
 //! Texts that are known before a search: those of the first run, of the second runs that show races, and of a few random orders.
 
-ghost use Rattle.std.specs.Prelude.{◌≡◌, ◌↔◌, [], false, length, IfOk, IsTrue, OnOk};
-ghost use Rattle.std.specs.List.{All};
+ghost use Rattle.std.specs.Prelude.{◌≡◌, ◌↔◌, ◌⊎◌, [], false, length, IfOk, IsTrue, OnOk};
+ghost use Rattle.std.specs.List.{All, Contains};
 ghost use Rattle.model.specs.declared.end.Limits.{Limits};
 ghost use Rattle.design.specs.Compiled.{Compiled};
 ghost use Rattle.explore.specs.Search.{Differs, IsShown};
@@ -92,7 +92,7 @@ impl KnownTexts {
         requires few { AreFew self.old }
         ensures few { AreFew self.new }
         ensures grows { HasGrown self.old self.new }
-        ensures lawful { (code : Compiled) (limits : Limits) → IsLawfulShown code limits one → All (IsLawfulShown code limits) self.old.shown.items → All (IsLawfulShown code limits) self.new.shown.items }
+        ensures each { All (λ s. Contains self.old.shown.items s ⊎ (s ≡ one)) self.new.shown.items }
         ensures there { IfOk result (λ there. IsTrue there → IsShown self.new.shown.items one.text.items one.end) }
         ensures full { IfOk result (λ there. there ≡ false → length self.new.shown.items ≡ self.new.most) }
     {
@@ -112,7 +112,7 @@ impl KnownTexts {
         requires few { AreFew self.old }
         ensures few { AreFew self.new }
         ensures grows { HasGrown self.old self.new }
-        ensures lawful { (code : Compiled) (limits : Limits) → All (IsLawfulShown code limits) others.items → All (IsLawfulShown code limits) self.old.shown.items → All (IsLawfulShown code limits) self.new.shown.items }
+        ensures each { All (λ s. Contains self.old.shown.items s ⊎ Contains others.items s) self.new.shown.items }
         ensures there { IfOk result (λ all. IsTrue all → All (λ s. IsShown self.new.shown.items s.text.items s.end) others.items) }
         ensures full { IfOk result (λ all. all ≡ false → length self.new.shown.items ≡ self.new.most) }
     {

@@ -2,7 +2,7 @@
 
 ghost use Rattle.std.specs.Prelude.{◌≡◌};
 ghost use Rattle.telling.specs.FaultLines.{line_of, program_line, subject_text};
-ghost use Rattle.program.specs.ProgramLines.{fault_line, file_line, stop_line, source_line, parse_line, module_line, simulate_line, replay_line, read_line, journal_line, entry_head, journal_tail, unread_with};
+ghost use Rattle.program.specs.ProgramLines.{fault_line, file_line, no_register_line, stop_line, source_line, parse_line, module_line, simulate_line, replay_line, read_line, journal_line, entry_head, journal_tail, unread_with};
 
 use crate::fault::{CommandFault, JournalFault, Stop};
 use differences::JournalSide;
@@ -59,6 +59,17 @@ fn file_line<'a>(fault: &FileFault<'a>) -> SubjectLine<'a>
         },
         FileFault::CannotWrite => SubjectLine::plain("cannot write"),
         FileFault::Memory => SubjectLine::plain("memory"),
+    }
+}
+
+/// The line of a name that is to be observed and that no register has.
+pub fn no_register_line(name: &str) -> SubjectLine<'_>
+    ensures { line_of result ≡ no_register_line name.entry.now }
+{
+    SubjectLine {
+        head: "no register ",
+        subject: Subject::Path(name),
+        tail: "",
     }
 }
 

@@ -5,15 +5,15 @@
 //! What is told goes through the writer of standard error, and of that the clauses speak. How far long work is goes past it: the files
 //! show it (`Files::progress`), and the line is gone before anything is written or told.
 
-ghost use Rattle.std.specs.Prelude.{◌≡◌, ◌≢◌, ◌⊎◌, ◌≤◌, List, [], IfErr, IfOk, OnOk, codes};
+ghost use Rattle.std.specs.Prelude.{◌≡◌, ◌≢◌, ◌⊎◌, ◌≤◌, List, IfErr, IfOk, OnOk, codes};
 ghost use Rattle.clap.specs.Words.{Text};
 ghost use Rattle.std.specs.Io.KnownBytes.{Appends, Keeps};
 ghost use Rattle.journal.specs.Counted.{held};
 ghost use Rattle.arguments.specs.CommandWords.{AreWrong, Asks, AsksExplain, AsksRaces, AsksRun, Begins, IsNoRequest, texts_of};
 ghost use Rattle.program.specs.Printed.{AsksCheckOf, HasEnded, HasExplainedPart, HasRefused, HaveDiffered, IsDone, IsLeft, IsUnprinted};
-ghost use Rattle.program.specs.Program.{IsNoRequestStatus, ended_status, help_text, right_text, status_of, version_text};
+ghost use Rattle.program.specs.Program.{IsNoRequestStatus, help_text, right_text, status_of, version_text};
 ghost use Rattle.files.specs.Saved.{KeepsFiles};
-ghost use Rattle.program.specs.StandardError.{HasExplainedTold, IsReported, IsUnfinished, IsWanting};
+ghost use Rattle.program.specs.StandardError.{HasExplainedTold, HasNamedNoRegister, IsReported, IsUnfinished, IsWanting};
 ghost use Rattle.program.specs.declared.ending.Ending.TheVariants as Ending;
 ghost use Rattle.program.specs.declared.fault.CommandFault.TheVariants.{Memory};
 ghost use Rattle.program.specs.ProgramLines.{fault_line, unread_line};
@@ -24,6 +24,7 @@ use crate::differing::diff_journals;
 use crate::ending::{Ending, finish, tell_fault};
 use crate::explaining::explain_journal;
 use crate::fault::CommandFault;
+use crate::observed::search_waves;
 use crate::replaying::replay_journal;
 use crate::running::run;
 use crate::searching::search_races;
@@ -51,7 +52,7 @@ pub fn command<R: Threads + Wait + Sync, F: Files, O: Write, E: Write>(
 ) -> u8
     ensures range { result ≤ 7 }
     ensures done { result ≡ 0 → IsDone (F.held files.old) (texts_of words.now) (O.contents (held out.old)) (O.contents (held out.new)) (F.made files.old) (F.made files.new) }
-    ensures wrong { result ≡ 2 → AreWrong (texts_of words.now) }
+    ensures wrong { result ≡ 2 → AreWrong (texts_of words.now) ⊎ HasNamedNoRegister (F.held files.old) (texts_of words.now) (O.contents (held out.old)) (O.contents (held out.new)) (F.made files.old) (F.made files.new) E.contents err.old err.new }
     ensures refused { result ≡ 3 → Begins (texts_of words.now) (codes "check") → HasRefused (F.held files.old) (texts_of words.now) (O.contents (held out.old)) (O.contents (held out.new)) (F.made files.old) (F.made files.new) }
     ensures faulty { result ≡ 5 → Begins (texts_of words.now) (codes "explain") → HasExplainedTold (F.held files.old) (texts_of words.now) (O.contents (held out.old)) (O.contents (held out.new)) E.contents err.old err.new }
     ensures stopped { result ≡ 4 → IsUnfinished (F.held files.old) (texts_of words.now) (O.contents (held out.old)) (O.contents (held out.new)) (F.made files.old) (F.made files.new) E.contents err.old err.new }
@@ -116,7 +117,7 @@ fn perform_run<'a, R: Threads + Wait + Sync, F: Files, O: Write>(
     }
 }
 
-/// Searches for races of FILE; what it ends with is what the search found.
+/// Searches for races of FILE, or for waves; what it ends with is what the search found, or that a register which is to be observed isn't there.
 fn perform_races<'a, F: Files, O: Write>(
     alloc: Global,
     request: &RacesRequest<'a>,
@@ -128,6 +129,9 @@ fn perform_races<'a, F: Files, O: Write>(
     ensures unsaved { IfErr result (λ fault. (status_of fault ≡ 3) ⊎ (status_of fault ≡ 5) → KeepsFiles (F.made files.old) (F.made files.new)) }
     ensures wanting { (words : List Text) → AsksRaces words request.now → IfErr result (λ fault. status_of fault ≡ 6 → IsLeft (F.held files.old) words (O.contents out.old) (O.contents out.new) (F.made files.old) (F.made files.new)) }
 {
+    if !request.observed.is_lines() {
+        return search_waves(alloc, request, files, out);
+    }
     match search_races(alloc, request, files, out) {
         Ok(found) => Ok(Ending::Found(found)),
         Err(fault) => Err(fault),
@@ -167,7 +171,7 @@ fn show_right<O: Write>(path: &str, out: &mut Counted<O>) -> Result<Ending, Comm
     Ok(Ending::Done)
 }
 
-/// Explains JOURNAL on FILE; where all was written, nothing is left to be told.
+/// Explains JOURNAL on FILE; where all was written, nothing is left to be told, but for a name that no register has.
 fn perform_explain<'a, F: Files, O: Write>(
     alloc: Global,
     request: &ExplainRequest<'a>,
@@ -179,10 +183,7 @@ fn perform_explain<'a, F: Files, O: Write>(
     ensures refused { (words : List Text) → AsksExplain words request.now → IfErr result (λ fault. status_of fault ≡ 5 → HasExplainedPart (F.held files.old) words (O.contents (held out.old)) (O.contents (held out.new)) fault) }
     ensures ended { (words : List Text) → AsksExplain words request.now → IfOk result (HasEnded (F.held files.old) words (O.contents (held out.old)) (O.contents (held out.new)) (F.made files.old) (F.made files.new)) }
 {
-    match explain_journal(alloc, request, files, out) {
-        Ok(()) => Ok(Ending::Done),
-        Err(fault) => Err(fault),
-    }
+    explain_journal(alloc, request, files, out)
 }
 
 /// Shows the version.

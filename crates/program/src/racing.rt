@@ -7,7 +7,7 @@ ghost use Rattle.sharing.specs.Parts.{Extends};
 ghost use Rattle.naming.specs.Naming.{TellsMore, TellsRaces};
 ghost use Rattle.arguments.specs.Options.{CanSearch};
 ghost use Rattle.causes.specs.Causes.{AreCauses, HasAnswer};
-ghost use Rattle.program.specs.Findings.{AreKnown, AreRaces, limits_in};
+ghost use Rattle.program.specs.Findings.{AreRaces, limits_in};
 ghost use Rattle.program.specs.Printed.{IsToldFirst, IsToldMore};
 ghost use Rattle.program.specs.Program.{status_of};
 

@@ -1,7 +1,7 @@
 //! `races FILE`: the file is read, and races are looked for and told. Then the lawful orders are searched, which may take long, or random
 //! ones tried. Races that part the texts which that found, and what is said of the texts, are told, and then the journals are written.
 
-ghost use Rattle.std.specs.Prelude.{◌≡◌, ◌≤◌, ◌⊎◌, ◌∷◌, ◌++◌, IfErr, IfOk, IfSome, List, None, OnOk, Option, [], ◌+◌, length, option_map, ℕ};
+ghost use Rattle.std.specs.Prelude.{◌≡◌, ◌≤◌, ◌⊎◌, ◌∷◌, ◌++◌, IfErr, IfOk, IfSome, List, None, OnOk, Option, [], ◌+◌, ◌*◌, length, option_map, ℕ};
 ghost use Rattle.std.specs.Io.KnownBytes.{Appends, Keeps};
 ghost use Rattle.sharing.specs.Parts.{Extends};
 ghost use Rattle.explore.specs.Search.{AreDistinct};
@@ -100,7 +100,7 @@ fn search_design<F: Files, O: Write>(
 }
 
 /// Tells what is said of texts, and then saves their journals where they are wanted.
-fn tell_texts<F: Files, O: Write>(
+pub(crate) fn tell_texts<F: Files, O: Write>(
     alloc: Global,
     texts: FoundTexts,
     last: &[u8],
@@ -191,11 +191,7 @@ fn find_texts<P: Progress>(
         until: search_options.until,
         max_entries: search_options.max_entries,
     };
-    let bounds = Bounds {
-        nodes: search_options.max_states as usize,
-        shown: search_options.max_texts as usize,
-        bytes: search_options.max_memory as usize * MEGABYTE,
-    };
+    let bounds = bounds_of(search_options, search_options.max_texts);
     let explored = lawful_orders(alloc, design, limits, bounds, progress);
     progress.end();
     let Explored {
@@ -221,9 +217,22 @@ fn find_texts<P: Progress>(
     })
 }
 
+/// How far a search goes: it keeps as many states and megabytes as were asked for, and finds so many texts at most.
+pub(crate) fn bounds_of(search_options: SearchOptions, texts: u32) -> Bounds
+    ensures nodes { result.nodes ≡ search_options.max_states }
+    ensures shown { result.shown ≡ texts }
+    ensures bytes { result.bytes ≡ search_options.max_memory * 1000000 }
+{
+    Bounds {
+        nodes: search_options.max_states as usize,
+        shown: texts as usize,
+        bytes: search_options.max_memory as usize * MEGABYTE,
+    }
+}
+
 /// For what a search stopped whose texts were put behind those that are known: for its own reason, for the most texts where one of them was left out, and for want of
 /// memory where that was refused to them.
-fn stop_of(stopped: Option<Stopped>, added: Result<bool, AllocError>) -> Option<Stopped>
+pub(crate) fn stop_of(stopped: Option<Stopped>, added: Result<bool, AllocError>) -> Option<Stopped>
     ensures { result ≡ search_stop_of stopped added }
 {
     match added {
@@ -244,7 +253,10 @@ fn or_full(stopped: Option<Stopped>) -> Option<Stopped>
 }
 
 /// The journal of a run that comes to no end, where the search wasn't stopped.
-fn endless_of(stopped: Option<Stopped>, endless: Option<Vec<Entry>>) -> Option<Vec<Entry>>
+pub(crate) fn endless_of(
+    stopped: Option<Stopped>,
+    endless: Option<Vec<Entry>>,
+) -> Option<Vec<Entry>>
     ensures { result ≡ unless_stopped stopped endless }
 {
     match stopped {
@@ -254,7 +266,7 @@ fn endless_of(stopped: Option<Stopped>, endless: Option<Vec<Entry>>) -> Option<V
 }
 
 /// The number of the journal of a run that comes to no end, which is behind those of the texts.
-fn number_of(endless: &Option<Vec<Entry>>, shown: &[Shown<Entry, End>]) -> Option<usize>
+pub(crate) fn number_of(endless: &Option<Vec<Entry>>, shown: &[Shown<Entry, End>]) -> Option<usize>
     requires { length shown.now ≤ 4294967295 }
     ensures { result ≡ option_map (λ journal. length shown.now + 1) endless.now }
 {
@@ -265,7 +277,7 @@ fn number_of(endless: &Option<Vec<Entry>>, shown: &[Shown<Entry, End>]) -> Optio
 }
 
 /// What is claimed of the texts of a search.
-fn claim_of(
+pub(crate) fn claim_of(
     search_options: SearchOptions,
     stopped: Option<Stopped>,
     nodes: usize,
@@ -397,7 +409,7 @@ fn last_lines<'a>(
 }
 
 /// The first text, if there is one.
-fn first_of(shown: &[Shown<Entry, End>]) -> &[u8]
+pub(crate) fn first_of(shown: &[Shown<Entry, End>]) -> &[u8]
     ensures { result.now ≡ first_text shown.now }
 {
     match shown.split_first() {

@@ -1,1 +1,2 @@
+pub mod LineOrders
 pub mod Races

@@ -65,7 +65,7 @@ pub(crate) enum Order {
 // How a second run is led: the search and the pair that it is for, how the order of that is turned, what it takes behind the entries before
 // the pair, by the places of their transitions, and how many entries it may have.
 #[derive(Clone, Copy)]
-struct Lead<'a> {
+struct ExchangeLead<'a> {
     task: RaceSearch<'a>,
     pair: Pair,
     turning: Turning,
@@ -73,7 +73,7 @@ struct Lead<'a> {
     most: u64,
 }
 
-impl<'a> Lead<'a> {
+impl<'a> ExchangeLead<'a> {
     // The transitions of the first run behind the pair's earlier entry, but for those that were taken before.
     fn guide(self) -> Guide<'a> {
         Guide {
@@ -272,7 +272,7 @@ pub(crate) fn exchange<P: Progress>(
     }
     let places = places_of(task.alloc, conflict, order)?;
     let mut run = JournaledMachine::start(task.alloc, task.design, task.limits)?;
-    let lead = Lead {
+    let lead = ExchangeLead {
         task,
         pair: conflict.pair,
         turning: conflict.turning,

@@ -24,5 +24,5 @@ mod told;
 mod trials;
 
 pub use search::find_races;
-pub use told::{Found, Race};
+pub use told::{Found, Race, is_line_order, numbers_of};
 pub use trials::{is_of, is_told};

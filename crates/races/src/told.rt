@@ -1,5 +1,8 @@
 //! What is told: the races of a design, each with a run that shows it.
 
+ghost use Rattle.std.specs.Prelude.{◌≡◌, if◌then◌else◌};
+ghost use Rattle.races.specs.LineOrders.{is_line_order};
+
 use accesses::{Role, Site};
 use conflicts::Bound;
 use runs::run::RunRecord;
@@ -23,4 +26,24 @@ pub struct Found {
     pub races: Vec<Race>,
     pub tried: usize,
     pub cut: Option<Bound>,
+}
+
+/// Whether a site is the order of lines, the races for which are told in one line for each time.
+pub fn is_line_order(site: Site) -> bool
+    ensures { result ≡ is_line_order site }
+{
+    match site {
+        Site::Printing => true,
+        Site::Register(_) => false,
+        Site::Strobing => false,
+        Site::Finishing => false,
+        Site::Updating => false,
+    }
+}
+
+/// How many numbers a race has when it is told: one, or none where it is for the order of lines.
+pub fn numbers_of(race: &Race) -> usize
+    ensures { result ≡ (if is_line_order race.now.site then 0 else 1) }
+{
+    if is_line_order(race.site) { 0 } else { 1 }
 }

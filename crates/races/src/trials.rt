@@ -8,7 +8,7 @@ use crate::exchange::{Order, exchange};
 use crate::race_search::RaceSearch;
 use crate::told::Race;
 use accesses::{Pair, Site};
-use conflicts::{Bound, Conflict, Conflicts, has_both_orders, is_order};
+use conflicts::{Bound, Conflict, Conflicts, SiteKind, has_both_orders, is_order, kind_of};
 use progress::Progress;
 use runs::compared::{are_apart, wants_memory};
 use runs::run::RunRecord;
@@ -306,19 +306,19 @@ impl Trials {
         }
     }
 
-    // Tries the conflicts of a round that are for an order of lines, or those that aren't, as it is asked.
+    // Tries the conflicts of a round that are of a kind.
     fn try_round<P: Progress>(
         &mut self,
         task: RaceSearch<'_>,
         round: &[Conflict],
-        order: bool,
+        kind: SiteKind,
         progress: &P,
     )
         requires { AreToldRaces task.design.now task.limits task.original.now task.bounds self.old }
         ensures { AreToldRaces task.entry.design.now task.entry.limits task.entry.original.now task.entry.bounds self.new }
     {
         for conflict in round {
-            if is_order(conflict.pair.site) == order {
+            if kind_of(conflict.pair.site) == kind {
                 self.try_conflict(task, conflict, progress);
             }
         }
@@ -329,20 +329,20 @@ impl Trials {
         &mut self,
         task: RaceSearch<'_>,
         rounds: &[Vec<Conflict>],
-        order: bool,
+        kind: SiteKind,
         progress: &P,
     )
         requires { AreToldRaces task.design.now task.limits task.original.now task.bounds self.old }
         ensures { AreToldRaces task.entry.design.now task.entry.limits task.entry.original.now task.entry.bounds self.new }
     {
         for round in rounds {
-            self.try_round(task, round.as_slice(), order, progress);
+            self.try_round(task, round.as_slice(), kind, progress);
         }
     }
 }
 
-/// Tries the conflicts of a first run, round by round: first those for registers and the end of the run, then those for an order of lines, so that
-/// these don't take the place of others.
+/// Tries the conflicts of a first run, round by round: first those for registers and the end of the run, then those for an order of strobes or of
+/// updates, and last those for the order of lines, so that these don't take the place of others.
 pub(crate) fn try_all<P: Progress>(
     task: RaceSearch<'_>,
     conflicts: &Conflicts,
@@ -352,7 +352,8 @@ pub(crate) fn try_all<P: Progress>(
 {
     let mut trials = Trials::new(task, conflicts);
     let rounds = conflicts.rounds.as_slice();
-    trials.try_rounds(task, rounds, false, progress);
-    trials.try_rounds(task, rounds, true, progress);
+    trials.try_rounds(task, rounds, SiteKind::Outcome, progress);
+    trials.try_rounds(task, rounds, SiteKind::Order, progress);
+    trials.try_rounds(task, rounds, SiteKind::Lines, progress);
     trials
 }

@@ -41,9 +41,20 @@ const PLAIN: GateExample<'static> = GateExample {
     lines: "",
 };
 
+/// Four processes with a turn each, of which the second seat takes the last.
+const FOURTH: GateExample<'static> = GateExample {
+    source: WRITERS,
+    journal: FOUR_TURNS,
+    committed: [3, 1],
+    ..PLAIN
+};
+
 const ONE: Side = Side::One;
 
 const TWO: Side = Side::Two;
+
+/// The first seat takes the first turn.
+const FIRST: SeatStep<'static> = (ONE, Act::Turn(0), Told::Entry(T0));
 
 /// The run was stopped by one of its seats.
 const STOPPED: Told = Told::Stopped(Why::Memory);
@@ -80,14 +91,33 @@ pub const THRICE: &[SeatStep<'static>] = &[
     (TWO, Act::Late(3, &[], Other::Takes(&[2])), Told::Stale(3)),
 ];
 
+/// A register that came back has changed.
+const CAME_BACK: GateExample<'static> = GateExample {
+    source: BACK,
+    steps: &[&[
+        FIRST,
+        (
+            TWO,
+            Act::Late(3, &[], Other::Takes(&[1, 2])),
+            Told::Stale(1),
+        ),
+        (TWO, Act::Turn(3), Told::Entry(T3)),
+        (TWO, Act::Read(&[(1, 1, Some(0))]), Told::Nothing),
+    ]],
+    ..FOURTH
+};
+
+/// A run that one of its seats stopped.
+const HALTED: GateExample<'static> = GateExample {
+    end: End::Stopped(Why::Memory),
+    ..PLAIN
+};
+
 const EXAMPLES: &[GateExample<'static>] = &[
     // a turn alone stands
     GateExample {
         source: "module t; reg [3:0] r; initial r=4'd9; endmodule",
-        steps: &[&[
-            (ONE, Act::Turn(0), Told::Entry(T0)),
-            (ONE, Act::Read(&[(0, 1, Some(9))]), Told::Nothing),
-        ]],
+        steps: &[&[FIRST, (ONE, Act::Read(&[(0, 1, Some(9))]), Told::Nothing)]],
         journal: &[T0],
         committed: [1, 0],
         ..PLAIN
@@ -97,7 +127,7 @@ const EXAMPLES: &[GateExample<'static>] = &[
     GateExample {
         source: "module t; reg [7:0] a; initial begin a=8'd2; a=8'd3; end initial begin a=8'd3; a=8'd2; end initial begin a=8'd3; a=8'd2; end initial begin a=8'd2; a=8'd2; end endmodule",
         steps: &[&[
-            (ONE, Act::Turn(0), Told::Entry(T0)),
+            FIRST,
             (ONE, Act::Read(&[(0, 2, Some(3))]), Told::Nothing),
             (ONE, Act::Turn(1), Told::Entry(T1)),
             (ONE, Act::Read(&[(0, 3, Some(2))]), Told::Nothing),
@@ -110,12 +140,91 @@ const EXAMPLES: &[GateExample<'static>] = &[
         committed: [4, 0],
         ..PLAIN
     },
+    // a turn that reads a register before another turn writes it is refused, and evaluated again it stands
+    GateExample {
+        steps: &[&[
+            (
+                TWO,
+                Act::Late(1, &[(0, 0, None)], Other::Takes(&[0])),
+                Told::Stale(1),
+            ),
+            (TWO, Act::Turn(1), Told::Entry(T1)),
+            (TWO, Act::Read(&[(1, 1, Some(1))]), Told::Nothing),
+        ]],
+        ..PLAIN
+    },
+    // the same turn is committed first: it gives x to a register that is x, which is no change
+    GateExample {
+        steps: &[&[
+            (TWO, Act::Turn(1), Told::Entry(T1)),
+            (TWO, Act::Read(&[(1, 0, None)]), Told::Nothing),
+            FIRST,
+        ]],
+        journal: &[T1, T0],
+        ..PLAIN
+    },
+    // a turn that is refused three times is evaluated under the lock
+    GateExample {
+        steps: &[
+            THRICE,
+            &[
+                (TWO, Act::Held(3), Told::Entry(T3)),
+                (TWO, Act::Read(&[(1, 1, Some(3))]), Told::Nothing),
+            ],
+        ],
+        ..FOURTH
+    },
+    // a turn never ends, since it saw one register before another turn and the other after it, and evaluated again it ends
+    GateExample {
+        source: MOMENTS,
+        steps: &[&[
+            (
+                TWO,
+                Act::Across((1, 0), &[(0, 0, None), (1, 1, Some(0))], Other::Takes(&[])),
+                Told::Stale(1),
+            ),
+            (TWO, Act::Turn(1), Told::Entry(T1)),
+            (TWO, Act::Read(&[(0, 1, Some(0))]), Told::Nothing),
+        ]],
+        ..PLAIN
+    },
+    CAME_BACK,
+    // an equal value is no change
+    GateExample {
+        steps: &[&[
+            FIRST,
+            (TWO, Act::Late(3, &[], Other::Takes(&[2])), Told::Entry(T3)),
+        ]],
+        tickets: 1,
+        journal: &[T0, T2, T3],
+        committed: [2, 1],
+        end: End::Running,
+        ..CAME_BACK
+    },
+    // a strobe before a nonblocking assignment of the register that it shows, and another at the next time: the monitor region is
+    // emptied before an advance
+    GateExample {
+        source: "module t; reg a; initial begin a=1'b0; $strobe(\"s %b\",a); a<=1'b1; $display(\"d %b\",a); #1 $strobe(\"t %b\",a); end endmodule",
+        steps: &[&[
+            FIRST,
+            (ONE, Act::Rest, Told::Entry(N)),
+            (ONE, Act::Update, Told::Entry(U1)),
+            (ONE, Act::Rest, Told::Entry(M)),
+            (ONE, Act::Rest, Told::Entry(A1)),
+            (ONE, Act::Turn(2), Told::Entry(T2)),
+            (ONE, Act::Rest, Told::Entry(M)),
+        ]],
+        journal: &[T0, N, U1, M, A1, T2, M],
+        committed: [7, 0],
+        lines: "d 0\ns 1\nt 1\n",
+        ..PLAIN
+    },
     // five updates, of which the second wakes a process: they are made in order, up to one that does so and as far as there is room
     GateExample {
         source: "module t; reg a, b; initial begin a<=1'b0; b<=1'b1; a<=1'b1; a<=1'b0; a<=1'b1; end initial @(b) $display(\"b is %b\",b); endmodule",
         steps: &[&[
             (ONE, Act::Turn(1), Told::Entry(T1)),
-            (ONE, Act::Turn(0), Told::Entry(T0)),
+            FIRST,
             (ONE, Act::Rest, Told::Entry(N)),
             (
                 ONE,
@@ -141,105 +250,6 @@ const EXAMPLES: &[GateExample<'static>] = &[
         lines: "b is 1\n",
         ..PLAIN
     },
-    // a turn that reads a register before another turn writes it is refused, and evaluated again it stands
-    GateExample {
-        steps: &[&[
-            (
-                TWO,
-                Act::Late(1, &[(0, 0, None)], Other::Takes(&[0])),
-                Told::Stale(1),
-            ),
-            (TWO, Act::Turn(1), Told::Entry(T1)),
-            (TWO, Act::Read(&[(1, 1, Some(1))]), Told::Nothing),
-        ]],
-        ..PLAIN
-    },
-    // the same turn is committed first: it gives x to a register that is x, which is no change
-    GateExample {
-        steps: &[&[
-            (TWO, Act::Turn(1), Told::Entry(T1)),
-            (TWO, Act::Read(&[(1, 0, None)]), Told::Nothing),
-            (ONE, Act::Turn(0), Told::Entry(T0)),
-        ]],
-        journal: &[T1, T0],
-        ..PLAIN
-    },
-    // a turn that is refused three times is evaluated under the lock
-    GateExample {
-        source: WRITERS,
-        steps: &[
-            THRICE,
-            &[
-                (TWO, Act::Held(3), Told::Entry(T3)),
-                (TWO, Act::Read(&[(1, 1, Some(3))]), Told::Nothing),
-            ],
-        ],
-        journal: FOUR_TURNS,
-        committed: [3, 1],
-        ..PLAIN
-    },
-    // a turn never ends, since it saw one register before another turn and the other after it, and evaluated again it ends
-    GateExample {
-        source: MOMENTS,
-        steps: &[&[
-            (
-                TWO,
-                Act::Across((1, 0), &[(0, 0, None), (1, 1, Some(0))], Other::Takes(&[])),
-                Told::Stale(1),
-            ),
-            (TWO, Act::Turn(1), Told::Entry(T1)),
-            (TWO, Act::Read(&[(0, 1, Some(0))]), Told::Nothing),
-        ]],
-        ..PLAIN
-    },
-    // a register that came back has changed
-    GateExample {
-        source: BACK,
-        steps: &[&[
-            (ONE, Act::Turn(0), Told::Entry(T0)),
-            (
-                TWO,
-                Act::Late(3, &[], Other::Takes(&[1, 2])),
-                Told::Stale(1),
-            ),
-            (TWO, Act::Turn(3), Told::Entry(T3)),
-            (TWO, Act::Read(&[(1, 1, Some(0))]), Told::Nothing),
-        ]],
-        journal: FOUR_TURNS,
-        committed: [3, 1],
-        ..PLAIN
-    },
-    // an equal value is no change
-    GateExample {
-        source: BACK,
-        steps: &[&[
-            (ONE, Act::Turn(0), Told::Entry(T0)),
-            (TWO, Act::Late(3, &[], Other::Takes(&[2])), Told::Entry(T3)),
-        ]],
-        tickets: 1,
-        journal: &[T0, T2, T3],
-        committed: [2, 1],
-        end: End::Running,
-        ..PLAIN
-    },
-    // a strobe before a nonblocking assignment of the register that it shows, and another at the next time: the monitor region is
-    // emptied before an advance
-    GateExample {
-        source: "module t; reg a; initial begin a=1'b0; $strobe(\"s %b\",a); a<=1'b1; $display(\"d %b\",a); #1 $strobe(\"t %b\",a); end endmodule",
-        steps: &[&[
-            (ONE, Act::Turn(0), Told::Entry(T0)),
-            (ONE, Act::Rest, Told::Entry(N)),
-            (ONE, Act::Update, Told::Entry(U1)),
-            (ONE, Act::Rest, Told::Entry(M)),
-            (ONE, Act::Rest, Told::Entry(A1)),
-            (ONE, Act::Turn(2), Told::Entry(T2)),
-            (ONE, Act::Rest, Told::Entry(M)),
-        ]],
-        journal: &[T0, N, U1, M, A1, T2, M],
-        committed: [7, 0],
-        lines: "d 0\ns 1\nt 1\n",
-        ..PLAIN
-    },
     // a stop comes before a turn under the lock
     GateExample {
         source: WRITERS,
@@ -252,8 +262,7 @@ const EXAMPLES: &[GateExample<'static>] = &[
         ],
         journal: &[T0, T1, T2],
         committed: [3, 0],
-        end: End::Stopped(Why::Memory),
-        ..PLAIN
+        ..HALTED
     },
     // a stop comes before a turn that is too long is given up
     GateExample {
@@ -261,8 +270,7 @@ const EXAMPLES: &[GateExample<'static>] = &[
         steps: &[&[(TWO, Act::Across((1, 0), &[], Other::Stops), STOPPED)]],
         journal: &[T0],
         committed: [1, 0],
-        end: End::Stopped(Why::Memory),
-        ..PLAIN
+        ..HALTED
     },
     // a stop of a run whose journal is full changes nothing
     GateExample {
@@ -300,10 +308,6 @@ const EXAMPLES: &[GateExample<'static>] = &[
         lines: "glitch\n",
         ..PLAIN
     },
-];
-
-/// Turns that are committed in one holding of the lock.
-const AT_ONCE: &[GateExample<'static>] = &[
     // of two turns that are committed at once the one that read what the other changed is refused, and evaluated again it stands
     GateExample {
         steps: &[&[
@@ -343,7 +347,7 @@ const AT_ONCE: &[GateExample<'static>] = &[
 
 /// The steps of the glitch, of which the seats take turns.
 const GLITCHES: &[SeatStep<'static>] = &[
-    (ONE, Act::Turn(0), Told::Entry(T0)),
+    FIRST,
     (TWO, Act::Turn(1), Told::Entry(T1)),
     (ONE, Act::Rest, Told::Entry(I)),
     (TWO, Act::Turn(3), Told::Entry(T3)),
@@ -411,13 +415,6 @@ fn assert_row<R: Wait + Abort>(rt: &R, alloc: Global, row: &GateExample<'_>) {
 #[test]
 fn each_call_answers_as_it_stands(rt: HostRuntime) {
     for row in EXAMPLES {
-        assert_row(&rt, rt.alloc(), row);
-    }
-}
-
-#[test]
-fn turns_that_are_committed_at_once_stand_in_their_order(rt: HostRuntime) {
-    for row in AT_ONCE {
         assert_row(&rt, rt.alloc(), row);
     }
 }

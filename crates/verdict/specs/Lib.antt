@@ -1,4 +1,5 @@
 pub mod VerdictLines
+pub mod OrderLines
 pub mod RaceLines
 pub mod Verdicts
 pub mod CutLines

@@ -41,13 +41,14 @@ up_to None = []
 abbrev pub lines_in : List ℕ → ℕ
 lines_in text = count_by (λ byte. byte == newline) text
 
--- that so many lines follow
-abbrev pub lines_text : ℕ → List ℕ
-lines_text count = codes "these " ++ grouped count ++ codes " lines\n"
+-- a number between two pieces
+abbrev pub number_between : List ℕ → ℕ → List ℕ → List ℕ
+number_between before number behind = before ++ grouped number ++ behind
 
--- so, with words for none and one
+-- that so many lines follow, with words for none and one
 abbrev pub these_lines : ℕ → List ℕ
-these_lines count = if count == 0 then codes "no line\n" else if count == 1 then codes "this line\n" else lines_text count
+these_lines count =
+    if count == 0 then codes "no line\n" else if count == 1 then codes "this line\n" else number_between (codes "these ") count (codes " lines\n")
 
 -- so many of a thing, with one word for one and another for more
 abbrev pub many_text : ℕ → List ℕ → List ℕ → List ℕ

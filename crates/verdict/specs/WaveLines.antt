@@ -1,7 +1,7 @@
 -- What is said of waves: of what two runs have in common where more or less than their lines, in order, is compared.
 use Rattle.std.specs.Prelude.{ℕ, ◌==◌, true, if◌then◌else◌, List, [], ◌++◌, Option, Some, None, option_map, codes, decimal}
 use Rattle.verdict.specs.RaceLines.{quoted_line, saved_journal_text}
-use Rattle.verdict.specs.Verdicts.{endless_text, grouped, many_every, none_every, sampled_text, so_far_text, states_text, up_to}
+use Rattle.verdict.specs.Verdicts.{endless_text, many_every, none_every, number_between, sampled_text, so_far_text, states_text, up_to}
 use Rattle.verdict.specs.declared.claim.Claim.{Claim}
 use Rattle.verdict.specs.declared.claim.Claim.TheVariants.{Every, SoFar, Sampled}
 use Rattle.verdict.specs.declared.waves.WaveDescription.{WaveDescription}
@@ -9,12 +9,12 @@ use Rattle.verdict.specs.declared.waves.WaveSite.{WaveSite}
 use Rattle.verdict.specs.declared.waves.WaveSite.TheVariants.{Register, Line, Time, End}
 
 -- that a wave parts from the first one in a register, when a time passes
-abbrev pub register_text : List ℕ → List ℕ → List ℕ
-register_text name time = codes " parts from wave 1 in register " ++ name ++ codes " when time " ++ time ++ codes " passes\n"
+abbrev pub register_parting_text : List ℕ → List ℕ → List ℕ
+register_parting_text name time = codes " parts from wave 1 in register " ++ name ++ codes " when time " ++ time ++ codes " passes\n"
 
 -- in what a wave parts first from the first one
 abbrev pub wave_site_text : WaveSite → List ℕ
-wave_site_text (Register name time) = register_text name.now time.now
+wave_site_text (Register name time) = register_parting_text name.now time.now
 wave_site_text Line = codes " parts from wave 1 in a line\n"
 wave_site_text Time = codes " parts from wave 1 in the time that passes\n"
 wave_site_text End = codes " has the lines and the values of wave 1, and another end\n"
@@ -44,34 +44,28 @@ wave_text wave = codes "wave " ++ decimal wave.number ++ wave_site_text wave.sit
 abbrev pub wave_count_text : ℕ → List ℕ
 wave_count_text count = if count == 0 then codes "no wave" else if count == 1 then codes "one wave" else (decimal count ++ codes " waves")
 
--- that so many registers, which are several, have the same values
-abbrev pub several_registers : ℕ → List ℕ
-several_registers registers = codes "these " ++ grouped registers ++ codes " registers have the same values"
-
--- so, with words for one
+-- that so many registers have the same values, with words for one
 abbrev pub these_registers : ℕ → List ℕ
-these_registers registers = if registers == 1 then codes "this register has the same values" else several_registers registers
+these_registers registers =
+    if registers == 1 then codes "this register has the same values" else number_between (codes "these ") registers (codes " registers have the same values")
 
--- that the same lines, which are several, are printed
-abbrev pub several_lines : ℕ → List ℕ
-several_lines lines = codes "the same " ++ grouped lines ++ codes " lines are printed"
-
--- so, with words for none and one
+-- that the same lines are printed, with words for none and one
 abbrev pub same_lines_text : ℕ → List ℕ
 same_lines_text lines =
-    if lines == 0 then codes "no line is printed" else if lines == 1 then codes "the same line is printed" else several_lines lines
+    if lines == 0 then codes "no line is printed" else if lines == 1 then codes "the same line is printed"
+    else number_between (codes "the same ") lines (codes " lines are printed")
 
 -- that they are printed at the same times
 abbrev pub at_times_text : ℕ → List ℕ
 at_times_text lines = same_lines_text lines ++ (if lines == 0 then codes "\n" else codes " at the same times\n")
 
 -- that so many registers have the same values, and so many lines are printed
-abbrev pub values_text : ℕ → ℕ → List ℕ
-values_text registers lines = these_registers registers ++ codes " (and " ++ same_lines_text lines ++ codes ")\n"
+abbrev pub same_values_text : ℕ → ℕ → List ℕ
+same_values_text registers lines = these_registers registers ++ codes " (and " ++ same_lines_text lines ++ codes ")\n"
 
 -- what is the same in every run
 abbrev pub same_text : ℕ → ℕ → List ℕ
-same_text registers lines = if registers == 0 then at_times_text lines else values_text registers lines
+same_text registers lines = if registers == 0 then at_times_text lines else same_values_text registers lines
 
 -- that every lawful run with an end has the same wave
 abbrev pub one_wave : ℕ → Option ℕ → ℕ → ℕ → Option ℕ → Option (List ℕ) → List ℕ

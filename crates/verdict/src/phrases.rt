@@ -1,7 +1,7 @@
 //! Parts of the lines on texts.
 
 ghost use Rattle.std.specs.Prelude.{◌≡◌, ◌<◌, ◌++◌, OnOk, decimal};
-ghost use Rattle.verdict.specs.Verdicts.{text_count_text, group, grouped, limit_text, lines_in, lines_text, many_text, stop_text, several_text, states_text, these_lines, thousands, up_to, up_to_time};
+ghost use Rattle.verdict.specs.Verdicts.{text_count_text, group, grouped, limit_text, lines_in, many_text, number_between, stop_text, several_text, states_text, these_lines, thousands, up_to, up_to_time};
 
 use crate::claim::SearchStop;
 use itoa::Buffer;
@@ -103,17 +103,22 @@ pub(crate) fn push_these_lines(text: &mut Vec<u8>, printed: &[u8]) -> Result<(),
     match lines_in(printed) {
         0 => text.extend_from_slice(b"no line\n"),
         1 => text.extend_from_slice(b"this line\n"),
-        count => push_lines(text, count),
+        count => push_between(text, b"these ", count as u64, b" lines\n"),
     }
 }
 
-/// That so many lines are printed, which are several.
-fn push_lines(text: &mut Vec<u8>, count: usize) -> Result<(), AllocError>
-    ensures { OnOk result (text.new.items ≡ text.old.items ++ lines_text count) }
+/// Puts a number between two pieces behind a text.
+pub(crate) fn push_between(
+    text: &mut Vec<u8>,
+    before: &[u8],
+    number: u64,
+    behind: &[u8],
+) -> Result<(), AllocError>
+    ensures { OnOk result (text.new.items ≡ text.old.items ++ number_between before.now number behind.now) }
 {
-    text.extend_from_slice(b"these ")?;
-    push_grouped(text, count as u64)?;
-    text.extend_from_slice(b" lines\n")
+    text.extend_from_slice(before)?;
+    push_grouped(text, number)?;
+    text.extend_from_slice(behind)
 }
 
 /// Puts so many of a thing behind a text, with one word for one and another for more.

@@ -1,11 +1,11 @@
 //! The lines on waves: what two runs have in common where more or less than their lines, in order, is compared.
 
 ghost use Rattle.std.specs.Prelude.{◌≡◌, ◌++◌, OnOk, codes, decimal, option_map, true};
-ghost use Rattle.verdict.specs.WaveLines.{at_times_text, one_wave, register_text, same_lines_text, same_text, several_lines, several_registers, side_text, sides_of, sides_text, these_registers, values_text, wave_claim_text, wave_count_text, wave_site_text, wave_text, wave_verdict_text};
+ghost use Rattle.verdict.specs.WaveLines.{at_times_text, one_wave, register_parting_text, same_lines_text, same_text, side_text, sides_of, sides_text, these_registers, same_values_text, wave_claim_text, wave_count_text, wave_site_text, wave_text, wave_verdict_text};
 ghost use Rattle.verdict.specs.Verdicts.{many_every};
 
 use crate::claim::Claim;
-use crate::phrases::{push_grouped, push_number, push_states, push_up_to};
+use crate::phrases::{push_between, push_number, push_states, push_up_to};
 use crate::race::{push_journal, push_quoted};
 use crate::verdict::{Verdict, push_endless, push_many, push_none, push_sampled, push_so_far};
 use std::alloc::AllocError;
@@ -71,7 +71,7 @@ fn push_wave_site(text: &mut Vec<u8>, site: WaveSite<'_>) -> Result<(), AllocErr
 
 /// Puts behind a text that a wave parts from the first one in a register when a time passes.
 fn push_register(text: &mut Vec<u8>, name: &str, time: &[u8]) -> Result<(), AllocError>
-    ensures { OnOk result (text.new.items ≡ text.old.items ++ register_text name.now time.now) }
+    ensures { OnOk result (text.new.items ≡ text.old.items ++ register_parting_text name.now time.now) }
 {
     text.extend_from_slice(b" parts from wave 1 in register ")?;
     text.extend_from_slice(name.as_bytes())?;
@@ -204,7 +204,7 @@ fn push_same(text: &mut Vec<u8>, registers: usize, lines: usize) -> Result<(), A
 
 /// That so many registers have the same values, and so many lines are printed.
 fn push_values(text: &mut Vec<u8>, registers: usize, lines: usize) -> Result<(), AllocError>
-    ensures { OnOk result (text.new.items ≡ text.old.items ++ values_text registers lines) }
+    ensures { OnOk result (text.new.items ≡ text.old.items ++ same_values_text registers lines) }
 {
     push_these_registers(text, registers)?;
     text.extend_from_slice(b" (and ")?;
@@ -218,17 +218,13 @@ fn push_these_registers(text: &mut Vec<u8>, registers: usize) -> Result<(), Allo
 {
     match registers {
         1 => text.extend_from_slice(b"this register has the same values"),
-        _ => push_several_registers(text, registers),
+        _ => push_between(
+            text,
+            b"these ",
+            registers as u64,
+            b" registers have the same values",
+        ),
     }
-}
-
-/// That so many registers, which are several, have the same values.
-fn push_several_registers(text: &mut Vec<u8>, registers: usize) -> Result<(), AllocError>
-    ensures { OnOk result (text.new.items ≡ text.old.items ++ several_registers registers) }
-{
-    text.extend_from_slice(b"these ")?;
-    push_grouped(text, registers as u64)?;
-    text.extend_from_slice(b" registers have the same values")
 }
 
 /// That the same lines, so many, are printed.
@@ -238,17 +234,8 @@ fn push_same_lines(text: &mut Vec<u8>, lines: usize) -> Result<(), AllocError>
     match lines {
         0 => text.extend_from_slice(b"no line is printed"),
         1 => text.extend_from_slice(b"the same line is printed"),
-        _ => push_several_lines(text, lines),
+        _ => push_between(text, b"the same ", lines as u64, b" lines are printed"),
     }
-}
-
-/// That the same lines, so many, which are several, are printed.
-fn push_several_lines(text: &mut Vec<u8>, lines: usize) -> Result<(), AllocError>
-    ensures { OnOk result (text.new.items ≡ text.old.items ++ several_lines lines) }
-{
-    text.extend_from_slice(b"the same ")?;
-    push_grouped(text, lines as u64)?;
-    text.extend_from_slice(b" lines are printed")
 }
 
 /// That the same lines, so many, are printed at the same times.

@@ -1,6 +1,6 @@
 -- Lemmas of observed texts and their lines.
 pub mod TextLines
 pub mod Named
-pub mod Standing
+pub mod TextStanding
 pub mod Arranged
 pub mod Told

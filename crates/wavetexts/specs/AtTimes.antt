@@ -33,13 +33,13 @@ abbrev pub comes_before : List ℕ → List ℕ → Bool
 comes_before one other = is_lt (slice_cmp nat_cmp one other)
 
 -- lines in order, and one more in its place among them
-abbrev pub with_line : List ℕ → List (List ℕ) → List (List ℕ)
-with_line line [] = line ∷ []
-with_line line (other ∷ others) = if comes_before other line then other ∷ with_line line others else line ∷ other ∷ others
+abbrev pub lines_with : List ℕ → List (List ℕ) → List (List ℕ)
+lines_with line [] = line ∷ []
+lines_with line (other ∷ others) = if comes_before other line then other ∷ lines_with line others else line ∷ other ∷ others
 
 -- a text of lines in order, and one more in its place among them
-abbrev pub placed : List ℕ → List ℕ → List ℕ
-placed line text = flat_map (λ l. l) (with_line line (lines_of text))
+abbrev pub placed_line : List ℕ → List ℕ → List ℕ
+placed_line line text = flat_map (λ l. l) (lines_with line (lines_of text))
 
 -- The lines of a text, where so many lines of what is seen are left and these lines, in order, were printed since: the printed ones in order up to
 -- what is seen next, then that, and so on.
@@ -47,7 +47,7 @@ abbrev pub arranged : ℕ → ℕ → List ℕ → List (List ℕ) → List ℕ
 arranged registers left held [] = held
 arranged registers left held (line ∷ lines) =
     (if is_printed left line then [] else (held ++ line))
-    ++ arranged registers (left_after registers line left) (if is_printed left line then placed line held else []) lines
+    ++ arranged registers (left_after registers line left) (if is_printed left line then placed_line line held else []) lines
 
 -- an observed text with the lines that are printed between two times in order
 abbrev pub at_times : ℕ → List ℕ → List ℕ

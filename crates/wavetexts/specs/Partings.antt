@@ -17,13 +17,13 @@ time_after zero line time = if begins_sight line then time_in line else time
 time_after (suc left) line time = time
 
 -- behind these lines so many lines of what is seen are left, of this time
-pub data StandsBehind (registers : ℕ) (left : ℕ) (time : List ℕ) : ℕ → List ℕ → List (List ℕ) → Type 0 where
-  there : StandsBehind registers left time left time []
-  on : (before : ℕ) (at : List ℕ) (line : List ℕ) (lines : List (List ℕ)) → StandsBehind registers left time (left_after registers line before) (time_after before line at) lines → StandsBehind registers left time before at (line ∷ lines)
+pub data TextStandsBehind (registers : ℕ) (left : ℕ) (time : List ℕ) : ℕ → List ℕ → List (List ℕ) → Type 0 where
+  there : TextStandsBehind registers left time left time []
+  on : (before : ℕ) (at : List ℕ) (line : List ℕ) (lines : List (List ℕ)) → TextStandsBehind registers left time (left_after registers line before) (time_after before line at) lines → TextStandsBehind registers left time before at (line ∷ lines)
 
 -- before the line with this number of an observed text so many lines of what is seen are left, of this time
 abbrev pub IsStandingBefore : ℕ → List ℕ → ℕ → ℕ → List ℕ → Type 0
-IsStandingBefore registers text number left time = StandsBehind registers left time 0 [] (take (number - 1) (lines_of text))
+IsStandingBefore registers text number left time = TextStandsBehind registers left time 0 [] (take (number - 1) (lines_of text))
 
 -- the name of a register, and `?` where there is no such register
 abbrev pub name_or_none : List (List ℕ) → ℕ → List ℕ

@@ -11,8 +11,8 @@ abbrev pub wave_text_of : ℕ → List ℕ → SeenEnd → List ℕ
 wave_text_of registers text end = at_times registers (text ++ end.seen)
 
 -- this is the wave of an observed text, with its end and its journal
-abbrev pub IsWaveOf : ℕ → Shown Entry SeenEnd → Shown Entry End → Type 0
-IsWaveOf registers s w =
+abbrev pub IsObservedWaveOf : ℕ → Shown Entry SeenEnd → Shown Entry End → Type 0
+IsObservedWaveOf registers s w =
     (w.text.items ≡ wave_text_of registers s.text.items s.end) × (w.end ≡ s.end.end) × (w.moves.items ≡ s.moves.items)
 
 -- these are the waves of observed texts, one by one
@@ -20,4 +20,4 @@ abbrev pub AreWavesOf : ℕ → List (Shown Entry SeenEnd) → List (Shown Entry
 AreWavesOf registers [] [] = Unit {0}
 AreWavesOf registers [] (w ∷ ws) = ⊥
 AreWavesOf registers (s ∷ ss) [] = ⊥
-AreWavesOf registers (s ∷ ss) (w ∷ ws) = IsWaveOf registers s w × AreWavesOf registers ss ws
+AreWavesOf registers (s ∷ ss) (w ∷ ws) = IsObservedWaveOf registers s w × AreWavesOf registers ss ws

@@ -1,7 +1,7 @@
 //! The lines of each time of an observed text, in one order.
 
 ghost use Rattle.std.specs.Prelude.{◌≡◌, ◌<◌, ◌++◌, [], length, IfNone, IfOk, IfSome, OnOk};
-ghost use Rattle.wavetexts.specs.AtTimes.{at_times, comes_before, left_after, placed, printed_lines};
+ghost use Rattle.wavetexts.specs.AtTimes.{at_times, comes_before, left_after, placed_line, printed_lines};
 ghost use Rattle.wavetexts.specs.Arrangings.{IsArrangedOn};
 
 use crate::lines::split_line;
@@ -17,9 +17,9 @@ fn comes_before(one: &[u8], other: &[u8]) -> bool
 
 // The first line of lines in order, and those behind it, where it comes before a line.
 fn split_before<'a>(line: &[u8], text: &'a [u8]) -> Option<(&'a [u8], &'a [u8])>
-    ensures some { IfSome result (λ p. placed line.now text.entry.now ≡ p.0.now ++ placed line.now p.1.now) }
+    ensures some { IfSome result (λ p. placed_line line.now text.entry.now ≡ p.0.now ++ placed_line line.now p.1.now) }
     ensures shorter { IfSome result (λ p. length p.1.now < length text.entry.now) }
-    ensures none { IfNone result (placed line.now text.entry.now ≡ line.now ++ text.entry.now) }
+    ensures none { IfNone result (placed_line line.now text.entry.now ≡ line.now ++ text.entry.now) }
 {
     match split_line(text) {
         Some((first, more)) => {
@@ -35,7 +35,7 @@ fn split_before<'a>(line: &[u8], text: &'a [u8]) -> Option<(&'a [u8], &'a [u8])>
 
 // Lines in order, and one more in its place among them.
 fn place(alloc: Global, line: &[u8], text: &[u8]) -> Result<Vec<u8>, AllocError>
-    ensures { IfOk result (λ all. all.items ≡ placed line.now text.now) }
+    ensures { IfOk result (λ all. all.items ≡ placed_line line.now text.now) }
 {
     let mut all = Vec::new(alloc);
     let mut rest = text;
@@ -59,7 +59,7 @@ struct Arranging {
 impl Arranging {
     // Puts a printed line into its place.
     fn hold(&mut self, alloc: Global, registers: usize, line: &[u8]) -> Result<(), AllocError>
-        ensures held { OnOk result (self.new.held.items ≡ placed line.now self.old.held.items) }
+        ensures held { OnOk result (self.new.held.items ≡ placed_line line.now self.old.held.items) }
         ensures done { OnOk result (self.new.done.items ≡ self.old.done.items) }
         ensures left { OnOk result (self.new.left ≡ left_after registers line.now self.old.left) }
     {

@@ -19,7 +19,7 @@ pub struct Parting<'a> {
 
 // Behind some lines of an observed text: how many lines of what is seen are left, and when that is.
 #[derive(Clone, Copy)]
-struct Standing<'a> {
+struct TextStanding<'a> {
     left: usize,
     time: &'a [u8],
 }
@@ -49,21 +49,21 @@ fn time_after<'a>(left: usize, line: &'a [u8], time: &'a [u8]) -> &'a [u8]
 }
 
 // How an observed text stands behind a line.
-fn stand_on<'a>(registers: usize, standing: Standing<'a>, line: &'a [u8]) -> Standing<'a>
+fn stand_on<'a>(registers: usize, standing: TextStanding<'a>, line: &'a [u8]) -> TextStanding<'a>
     ensures left { result.left ≡ left_after registers line.entry.now standing.entry.left }
     ensures time { result.time.now ≡ time_after standing.entry.left line.entry.now standing.entry.time.now }
 {
-    Standing {
+    TextStanding {
         left: left_after(registers, line, standing.left),
         time: time_after(standing.left, line, standing.time),
     }
 }
 
 // How an observed text of so many registers stands before the line with this number.
-fn standing_before<'a>(registers: usize, text: &'a [u8], number: usize) -> Standing<'a>
+fn standing_before<'a>(registers: usize, text: &'a [u8], number: usize) -> TextStanding<'a>
     ensures { IsStandingBefore registers text.entry.now number result.left result.time.now }
 {
-    let mut standing = Standing { left: 0, time: &[] };
+    let mut standing = TextStanding { left: 0, time: &[] };
     let mut rest = text;
     let mut before = number;
     while before > 1 {
@@ -130,7 +130,7 @@ fn line_parting<'a>(first: &'a [u8], second: &'a [u8]) -> Parting<'a>
 fn parting_at<'a>(
     design: &'a Design,
     registers: &[RegId],
-    standing: Standing<'a>,
+    standing: TextStanding<'a>,
     first: &'a [u8],
     second: &'a [u8],
 ) -> Parting<'a>

@@ -1,7 +1,7 @@
 //! Waves: what runs have in common, besides their end, where the order of lines at one time doesn't count.
 
 ghost use Rattle.std.specs.Prelude.{◌≡◌, IfOk};
-ghost use Rattle.wavetexts.specs.Waves.{AreWavesOf, IsWaveOf};
+ghost use Rattle.wavetexts.specs.Waves.{AreWavesOf, IsObservedWaveOf};
 
 use crate::arranging::at_times;
 use explore::Shown;
@@ -16,7 +16,7 @@ fn wave_of(
     registers: usize,
     shown: Shown<Entry, ObservedEnd>,
 ) -> Result<Shown<Entry, End>, AllocError>
-    ensures { IfOk result (IsWaveOf registers shown) }
+    ensures { IfOk result (IsObservedWaveOf registers shown) }
 {
     let Shown { text, end, moves } = shown;
     let ObservedEnd { end, seen } = end;

@@ -38,15 +38,15 @@ const CLOCK: &str = "module t; always #10 $display(\"t\"); endmodule";
 const STROBE: &str =
     "module t; reg a; initial begin a=1'b0; $strobe(\"s %b\",a); a<=1'b1; $display(\"d %b\",a); end endmodule";
 
+/// A strobe before the end of the simulation.
+const STROBE_LOST: &str = "module t; initial begin $strobe(\"s\"); $finish; end endmodule";
+
 /// Two processes with a strobe each.
 const STROBES: &str = "module t; initial $strobe(\"p\"); initial $strobe(\"q\"); endmodule";
 
 /// A strobe at each of two times.
 const STROBES_APART: &str =
     "module t; initial begin $strobe(\"a\"); #1 $strobe(\"b\"); end endmodule";
-
-/// A strobe before the end of the simulation.
-const STROBE_LOST: &str = "module t; initial begin $strobe(\"s\"); $finish; end endmodule";
 
 /// A turn that never ends.
 const ENDLESS: &str = "module t; always ; endmodule";

@@ -28,6 +28,7 @@ const CUTS: &[CutOutput] = &[
     (REPLAY, HI, ONE_TURN, "hi"),
     (EXPLAIN, HI, ONE_TURN, ""),
     (EXPLAIN, HI, ONE_TURN, FIRST_TURN),
+    ("vsimtx races t.v --observe registers", HI, b"", "one w"),
     // a stop is only told after its lines
     ("vsimtx run t.v --until 10", CLOCK, b"", "t"),
 ];

@@ -2,7 +2,7 @@
 
 use super::compare::assert_entries;
 use super::held::design_of;
-use super::scarce::Scarce;
+use super::scarce::{Scarce, ScarceCall, assert_done};
 use crate::claims::{fail, holds};
 use design::{Design, RegId};
 use fixtures::entries::{A1, A5, T0, T1, T2, T3};
@@ -15,14 +15,6 @@ use observers::{Observation, Observing, observe_journal, push_seen};
 use regions::Machine;
 use std::alloc::{AllocError, Global};
 use std::process::Abort;
-
-/// How much more memory a call gets each time, and how often at most.
-const STEP: usize = 48;
-
-const ROOMS: usize = 512;
-
-/// The bytes of a piece of memory.
-const PIECE: usize = 32 << 10;
 
 /// Two processes that give a register a value, and one that prints a line and waits.
 const RACE: &[u8] =
@@ -142,41 +134,22 @@ fn assert_seen(rt: &impl Abort, found: &Option<Observation>, row: &SightRow<'_>)
     }
 }
 
-// A row in so much memory. The answer is whether it is enough.
-fn is_seen(rt: &impl Abort, memory: &mut Scarce, row: &SightRow<'_>) -> bool {
-    let alloc = memory.alloc;
-    memory.open(rt);
-    let design = design_of(rt, alloc, row.source);
-    let observing = observing_of(rt, alloc, row.registers);
-    memory.leave(rt);
-    let answer = observation_of(rt, alloc, &design, &observing, row);
-    memory.open(rt);
-    match answer {
-        Ok(found) => {
-            assert_seen(rt, &found, row);
-            true
+impl ScarceCall for SightRow<'_> {
+    fn is_done(&self, rt: &impl Abort, memory: &mut Scarce) -> bool {
+        let alloc = memory.alloc;
+        memory.open(rt);
+        let design = design_of(rt, alloc, self.source);
+        let observing = observing_of(rt, alloc, self.registers);
+        memory.leave(rt);
+        let answer = observation_of(rt, alloc, &design, &observing, self);
+        memory.open(rt);
+        match answer {
+            Ok(found) => {
+                assert_seen(rt, &found, self);
+                true
+            }
+            Err(_) => false,
         }
-        Err(_) => false,
-    }
-}
-
-// A row gets more and more memory, of which there is too little at first.
-fn assert_row(rt: &impl Abort, alloc: Global, row: &SightRow<'_>) {
-    let mut memory = Scarce::new(rt, alloc, STEP, 3 * ROOMS, PIECE);
-    for count in 0..ROOMS {
-        memory.steps = count;
-        if is_seen(rt, &mut memory, row) {
-            holds(rt, count > 0, "memory was refused");
-            return;
-        }
-    }
-    fail(rt, "never enough");
-}
-
-#[test]
-fn journals_are_seen_or_refused_memory(rt: HostRuntime) {
-    for row in ROWS {
-        assert_row(&rt, rt.alloc(), row);
     }
 }
 
@@ -187,6 +160,13 @@ fn an_unlawful_journal_is_not_seen(rt: HostRuntime) {
     // the first event is taken once
     let found = observe_journal(alloc, &design, &Observing::Lines, &[T0, T0]).expect(&rt, "memory");
     holds(&rt, found.is_none(), "a journal");
+}
+
+#[test]
+fn journals_are_seen_or_refused_memory(rt: HostRuntime) {
+    for row in ROWS {
+        assert_done(&rt, rt.alloc(), row);
+    }
 }
 
 // What is seen of these registers at the start stands behind the bytes.

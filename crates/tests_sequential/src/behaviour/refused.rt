@@ -4,8 +4,8 @@ use super::compare::{assert_entries, assert_number};
 use super::dumps::{self, DUMPS, is_dumped};
 use super::held::text_of_fault;
 use super::journal_text::read;
-use super::scarce::Scarce;
-use crate::claims::{fail, holds};
+use super::scarce::{Scarce, ScarceCall, assert_done};
+use crate::claims::holds;
 use crate::language::faults_told::is_told;
 use fixtures::entries::{T0, T1};
 use fixtures::{COPY, GLITCH, GLITCH_JOURNAL, SWAP, SWAP_JOURNAL};
@@ -15,14 +15,6 @@ use model::entry::Entry;
 use replay::{BytesFault, replay_bytes};
 use std::alloc::Global;
 use std::process::Abort;
-
-/// How much more memory a call gets each time, and how often at most.
-const STEP: usize = 48;
-
-const ROOMS: usize = 512;
-
-/// The bytes of a piece of memory.
-const PIECE: usize = 32 << 10;
 
 /// More bytes than any of the texts has.
 const TEXT: usize = 256;
@@ -166,54 +158,42 @@ fn is_replayed(rt: &impl Abort, memory: &mut Scarce, row: &RefusedSource<'_>) ->
     }
 }
 
-// Whether a call is done in so much memory. If not, it tells of memory.
-fn is_done(rt: &impl Abort, memory: &mut Scarce, call: RefusedCall<'_>) -> bool {
-    match call {
-        RefusedCall::Design(row) => is_design(rt, memory, row),
-        RefusedCall::Read(row) => is_journal(rt, memory, row),
-        RefusedCall::Write(row) => is_written(rt, memory, row),
-        RefusedCall::Replay(row) => is_replayed(rt, memory, row),
-        RefusedCall::Dump(row) => is_dumped(rt, memory, row),
-        RefusedCall::Fault => {
-            memory.leave(rt);
-            is_told(rt, memory.alloc)
+impl ScarceCall for RefusedCall<'_> {
+    fn is_done(&self, rt: &impl Abort, memory: &mut Scarce) -> bool {
+        match *self {
+            RefusedCall::Design(row) => is_design(rt, memory, row),
+            RefusedCall::Read(row) => is_journal(rt, memory, row),
+            RefusedCall::Write(row) => is_written(rt, memory, row),
+            RefusedCall::Replay(row) => is_replayed(rt, memory, row),
+            RefusedCall::Dump(row) => is_dumped(rt, memory, row),
+            RefusedCall::Fault => {
+                memory.leave(rt);
+                is_told(rt, memory.alloc)
+            }
         }
     }
-}
-
-// A call gets more and more memory, of which there is too little at first.
-fn assert_done(rt: &impl Abort, alloc: Global, call: RefusedCall<'_>) {
-    let mut memory = Scarce::new(rt, alloc, STEP, 3 * ROOMS, PIECE);
-    for count in 0..ROOMS {
-        memory.steps = count;
-        if is_done(rt, &mut memory, call) {
-            holds(rt, count > 0, "memory was refused");
-            return;
-        }
-    }
-    fail(rt, "never done");
 }
 
 #[test]
 fn sources_and_journals_are_read_or_refused_memory(rt: HostRuntime) {
     for row in ROWS {
-        assert_done(&rt, rt.alloc(), RefusedCall::Design(row));
-        assert_done(&rt, rt.alloc(), RefusedCall::Read(row));
+        assert_done(&rt, rt.alloc(), &RefusedCall::Design(row));
+        assert_done(&rt, rt.alloc(), &RefusedCall::Read(row));
     }
 }
 
 #[test]
 fn journals_are_written_and_replayed_or_refused_memory(rt: HostRuntime) {
     for row in ROWS {
-        assert_done(&rt, rt.alloc(), RefusedCall::Write(row));
-        assert_done(&rt, rt.alloc(), RefusedCall::Replay(row));
+        assert_done(&rt, rt.alloc(), &RefusedCall::Write(row));
+        assert_done(&rt, rt.alloc(), &RefusedCall::Replay(row));
     }
 }
 
 #[test]
 fn dumps_and_faults_are_told_or_refused_memory(rt: HostRuntime) {
     for row in DUMPS {
-        assert_done(&rt, rt.alloc(), RefusedCall::Dump(row));
+        assert_done(&rt, rt.alloc(), &RefusedCall::Dump(row));
     }
-    assert_done(&rt, rt.alloc(), RefusedCall::Fault);
+    assert_done(&rt, rt.alloc(), &RefusedCall::Fault);
 }

@@ -1,10 +1,9 @@
-use Rattle.std.proofs.Common.{◌∙◌, ap, is_some}
-use Rattle.clap.specs.Words.{found_of}
-use Rattle.clap.proofs.WalkLemmas.{first_value-rows}
+-- By the text that is given.
+use Rattle.std.proofs.Common.{ap, is_some, sym}
 use Rattle.arguments.proofs.given.gives.Goals as goal
 
 pub returns-in-Some : goal.returns-in-Some
-returns-in-Some c = ap is_some (c.in-Some.ensures ∙ first_value-rows (found_of c.args.matches.now) c.args.name.now)
+returns-in-Some c = ap is_some (sym c.in-Some.ensures)
 
 pub returns-in-None : goal.returns-in-None
-returns-in-None c = ap is_some (c.in-None.ensures ∙ first_value-rows (found_of c.args.matches.now) c.args.name.now)
+returns-in-None c = ap is_some (sym c.in-None.ensures)

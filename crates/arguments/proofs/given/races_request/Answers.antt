@@ -1,16 +1,11 @@
-use Rattle.std.proofs.Common.{◌≡◌, ◌∙◌, ap, sym, ℕ, List, Some, option_map, codes, rules}
-use Rattle.std.specs.Borrow.{Bor}
-use Rattle.clap.specs.Words.{found_of}
-use Rattle.clap.proofs.WalkLemmas.{first_value-rows}
+-- What the words give.
 use Rattle.arguments.proofs.given.races_request.Goals as goal
 
 pub returns : goal.returns
-returns c =
-    let found = found_of c.args.matches.now in
-    let file : c.get_str.result ≡ Some c.unwrap.result = search rules in
-    record {
-      in_range = c.search_options.ensures.fit;
-      file = sym (first_value-rows found (codes "FILE")) ∙ (sym c.get_str.ensures ∙ ap (option_map (λ (s : Bor (List ℕ)). s.now)) file);
-      search_options = c.search_options.ensures.given;
-      journals = sym (first_value-rows found (codes "journals")) ∙ sym c.get_str-2.ensures;
-    }
+returns c = record {
+  in_range = c.search_options.ensures.fit;
+  file = c.given_word.ensures;
+  search_options = c.search_options.ensures.given;
+  observed = c.requires.observed;
+  journals = c.given_text.ensures;
+}

@@ -1,5 +1,4 @@
 -- The entry at the place is taken, and its line is put.
-use Rattle.model.specs.declared.entry.Entry.TheVariants.{ActivateInactive}
 use Rattle.explain.proofs.EntryText.{line_put}
 use Rattle.explain.proofs.entry_text.push_next.Goals as goal
 

@@ -1,43 +1,41 @@
--- The design of the source, and the journal that was left to read.
+-- The journal that was left to read.
 use Rattle.std.proofs.Common.{List, OnOk, subst}
 use Rattle.model.specs.declared.entry.Entry.{Entry}
 use Rattle.explain.specs.ExplainedText.{Explains, ExplainsFault}
 use Rattle.explain.specs.Explained.{IfExplainReplay}
-use Rattle.explain.proofs.Ends.{no_source_if, no_read_if, begun_if, text_if, text_fault_if, lawful_if, replay_if}
+use Rattle.explain.specs.Wanted.{wanted_registers}
+use Rattle.explain.proofs.Ends.{no_read_if, begun_if, text_if, text_fault_if, lawful_if, replay_if}
 use Rattle.explain.proofs.telling.explain.Goals as goal
 
 pub returns-clause-lawful : goal.returns-clause-lawful
 returns-clause-lawful g c =
-    lawful_if _ c.args.source.now c.in-Ok.design c.args.presentation c.in-Ok-read_journal.entries.items _ (g.W.Write.contents c.args.out.now) (g.W.Write.contents c.explain_on.new.out)
-    (record { is_design = c.in-Ok.ensures.design; is_journal = c.in-Ok-read_journal.ensures.journal })
-    (subst (λ (es : List Entry). OnOk c.explain_on.result (Explains c.args.source.now c.in-Ok.design c.args.presentation es (g.W.Write.contents c.args.out.now) (g.W.Write.contents c.explain_on.new.out)))
+    lawful_if _ c.args.subject.source.now c.args.subject.design.now (wanted_registers c.args.subject.registers) c.args.presentation c.in-Ok.entries.items _ (g.W.Write.contents c.args.out.now) (g.W.Write.contents c.explain_on.new.out)
+    (record { is_design = c.requires; is_journal = c.in-Ok.ensures.journal })
+    (subst (λ (es : List Entry). OnOk c.explain_on.result (Explains c.args.subject.source.now c.args.subject.design.now (wanted_registers c.args.subject.registers) c.args.presentation es (g.W.Write.contents c.args.out.now) (g.W.Write.contents c.explain_on.new.out)))
     c.deref.ensures.value c.explain_on.ensures.told)
 
 pub returns-clause-told : goal.returns-clause-told
 returns-clause-told g c =
-    text_if _ c.args.source.now c.in-Ok.design c.args.presentation c.in-Ok-read_journal.entries.items _ (g.W.Write.contents c.args.out.now) (g.W.Write.contents c.explain_on.new.out)
-    (record { is_design = c.in-Ok.ensures.design; is_journal = c.in-Ok-read_journal.ensures.journal })
-    (subst (λ (es : List Entry). OnOk c.explain_on.result (Explains c.args.source.now c.in-Ok.design c.args.presentation es (g.W.Write.contents c.args.out.now) (g.W.Write.contents c.explain_on.new.out)))
+    text_if _ c.args.subject.source.now c.args.subject.design.now (wanted_registers c.args.subject.registers) c.args.presentation c.in-Ok.entries.items _ (g.W.Write.contents c.args.out.now) (g.W.Write.contents c.explain_on.new.out)
+    (record { is_design = c.requires; is_journal = c.in-Ok.ensures.journal })
+    (subst (λ (es : List Entry). OnOk c.explain_on.result (Explains c.args.subject.source.now c.args.subject.design.now (wanted_registers c.args.subject.registers) c.args.presentation es (g.W.Write.contents c.args.out.now) (g.W.Write.contents c.explain_on.new.out)))
     c.deref.ensures.value c.explain_on.ensures.told)
 
 pub returns-clause-stopped : goal.returns-clause-stopped
 returns-clause-stopped g c =
-    text_fault_if _ c.args.source.now c.in-Ok.design c.args.presentation c.in-Ok-read_journal.entries.items _ (g.W.Write.contents c.args.out.now) (g.W.Write.contents c.explain_on.new.out)
-    (record { is_design = c.in-Ok.ensures.design; is_journal = c.in-Ok-read_journal.ensures.journal })
-    (subst (λ (es : List Entry). IfExplainReplay c.explain_on.result (ExplainsFault c.args.source.now c.in-Ok.design c.args.presentation es (g.W.Write.contents c.args.out.now) (g.W.Write.contents c.explain_on.new.out)))
+    text_fault_if _ c.args.subject.source.now c.args.subject.design.now (wanted_registers c.args.subject.registers) c.args.presentation c.in-Ok.entries.items _ (g.W.Write.contents c.args.out.now) (g.W.Write.contents c.explain_on.new.out)
+    (record { is_design = c.requires; is_journal = c.in-Ok.ensures.journal })
+    (subst (λ (es : List Entry). IfExplainReplay c.explain_on.result (ExplainsFault c.args.subject.source.now c.args.subject.design.now (wanted_registers c.args.subject.registers) c.args.presentation es (g.W.Write.contents c.args.out.now) (g.W.Write.contents c.explain_on.new.out)))
     c.deref.ensures.value c.explain_on.ensures.stopped)
-
-pub returns-clause-source : goal.returns-clause-source
-returns-clause-source g c = no_source_if _ _ c.explain_on.ensures.own
 
 pub returns-clause-read : goal.returns-clause-read
 returns-clause-read g c = no_read_if _ _ c.explain_on.ensures.own
 
 pub returns-clause-replay : goal.returns-clause-replay
 returns-clause-replay g c =
-    replay_if _ c.args.source.now c.in-Ok.design c.args.presentation c.in-Ok-read_journal.entries.items _ (g.W.Write.contents c.args.out.now) (g.W.Write.contents c.explain_on.new.out)
-    (record { is_design = c.in-Ok.ensures.design; is_journal = c.in-Ok-read_journal.ensures.journal })
-    (subst (λ (es : List Entry). IfExplainReplay c.explain_on.result (ExplainsFault c.args.source.now c.in-Ok.design c.args.presentation es (g.W.Write.contents c.args.out.now) (g.W.Write.contents c.explain_on.new.out)))
+    replay_if _ c.args.subject.source.now c.args.subject.design.now (wanted_registers c.args.subject.registers) c.args.presentation c.in-Ok.entries.items _ (g.W.Write.contents c.args.out.now) (g.W.Write.contents c.explain_on.new.out)
+    (record { is_design = c.requires; is_journal = c.in-Ok.ensures.journal })
+    (subst (λ (es : List Entry). IfExplainReplay c.explain_on.result (ExplainsFault c.args.subject.source.now c.args.subject.design.now (wanted_registers c.args.subject.registers) c.args.presentation es (g.W.Write.contents c.args.out.now) (g.W.Write.contents c.explain_on.new.out)))
     c.deref.ensures.value c.explain_on.ensures.stopped)
 
 pub returns-clause-nothing : goal.returns-clause-nothing

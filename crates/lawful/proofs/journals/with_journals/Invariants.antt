@@ -8,5 +8,5 @@ use Rattle.lawful.proofs.journals.with_journals.Given as goal
 
 abbrev pub invariant-loop-loosely : goal.invariant-loop-loosely
 invariant-loop-loosely g l =
-    (done : List (Shown LooseTransition g.row.S-End.Denot)) × (done ++ into_iter_items l.loosely-iterator ≡ l.fn.shown.items)
-    × AreShownLawfully (g.S.JournalSearch.is_journal l.kind l.scope.design.now l.scope.limits) done l.lawful.items
+    (done : List (Shown LooseTransition g.row.T-End.Denot)) × (done ++ into_iter_items l.loosely-iterator ≡ l.fn.shown.items)
+    × AreShownLawfully (g.T.RunTelling.is_journal l.telling l.scope.design.now l.scope.limits) done l.lawful.items

@@ -1,5 +1,5 @@
 -- Nothing is seen where the run has finished, and else what is seen of the state.
-use Rattle.std.proofs.Common.{◌≡◌, ◌++◌, ◌==◌, List, ℕ, length, true, false, sym, ap, ◌∙◌}
+use Rattle.std.proofs.Common.{◌≡◌, ◌++◌, List, ℕ, length, true, false, sym, ap, ◌∙◌}
 use Rattle.std.proofs.lemmas.Bool.{eqb-true}
 use Rattle.lawful.proofs.ObservedWays.{no_moves, never_both}
 use Rattle.lawful.proofs.observed_ways.seen_at_end.Goals as goal

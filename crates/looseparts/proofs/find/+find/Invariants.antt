@@ -10,19 +10,16 @@ use Rattle.looseparts.specs.FoundGroups.{IsPart}
 use Rattle.looseparts.proofs.find.+find.Given as goal
 
 abbrev pub decreases-explore : goal.decreases-explore
-decreases-explore l = 5 * l.depth
-
-abbrev pub decreases-go_on : goal.decreases-go_on
-decreases-go_on l = 5 * l.depth + 1
+decreases-explore l = 4 * l.depth
 
 abbrev pub decreases-follow_one : goal.decreases-follow_one
-decreases-follow_one l = 5 * l.depth + 2
+decreases-follow_one l = 4 * l.depth + 1
 
 abbrev pub decreases-follow : goal.decreases-follow
-decreases-follow l = 5 * l.depth + 3
+decreases-follow l = 4 * l.depth + 2
 
 abbrev pub decreases-part_of : goal.decreases-part_of
-decreases-part_of l = 5 * l.depth + 4
+decreases-part_of l = 4 * l.depth + 3
 
 abbrev pub invariant-explore-loop-actor : goal.invariant-explore-loop-actor
 invariant-explore-loop-actor l = All (IsPart (class_in l.classes) l.machine.code (state_at l.machine)) l.parts.items

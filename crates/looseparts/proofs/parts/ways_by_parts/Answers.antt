@@ -26,7 +26,7 @@ returns-in-Some-clause-cover c = λ limits.
     subst (λ (z : Vec (Vec LooseTransition)). CoverToFinish class (design_of m.code) limits (state_at m) (ways_in ways.items) (ways_in z.items)) (sym c.covering.ensures.ends)
     (subst (λ (z : Vec (Vec LooseTransition)). CoverToFinish class (design_of m.code) limits (state_at m) (ways_in z.items) (ways_in c.in-Some.found.ends.items)) (sym c.covering.ensures.ways)
     (covers class m.code limits (state_at m) c.deref.result.now c.in-Some.found a waits
-    (subst (λ o. IfSome o (IsFoundFor class m.code (state_at m) c.deref.result.now)) c.in-Some.is c.in_ok-found.ensures)
+    (subst (λ o. IfSome o (IsFoundFor class m.code (state_at m) c.deref.result.now)) c.in-Some.is (c.in_ok-found.ensures.going going))
     (λ b waits'. subst (λ z. Contains z b) (sym c.deref.ensures.value) ((c.in_ok-group.ensures.permitted b).1 (waiting_may class (design_of m.code) (state_at m) b c.requires going waits')))))
 
 pub returns-in-Some-clause-short : goal.returns-in-Some-clause-short
@@ -35,5 +35,5 @@ returns-in-Some-clause-short c =
     let m = c.args.machine.now in
     let going = sym c.is_finished.ensures ∙ c.if-is_finished.false in
     nobody_long class m.code (state_at m) c.deref.result.now c.in-Some.found
-    (subst (λ o. IfSome o (IsFoundFor class m.code (state_at m) c.deref.result.now)) c.in-Some.is c.in_ok-found.ensures)
+    (subst (λ o. IfSome o (IsFoundFor class m.code (state_at m) c.deref.result.now)) c.in-Some.is (c.in_ok-found.ensures.going going))
     (λ b waits'. subst (λ z. Contains z b) (sym c.deref.ensures.value) ((c.in_ok-group.ensures.permitted b).1 (waiting_may class (design_of m.code) (state_at m) b c.requires going waits')))

@@ -2,7 +2,7 @@
 use Rattle.std.proofs.Common.{◌≡◌, true, subst}
 use Rattle.std.specs.List.{All}
 use Rattle.looseparts.specs.StandTogether.{concern}
-use Rattle.looseparts.specs.declared.repeats.GoneWay.{GoneWay}
+use Rattle.looseparts.specs.declared.gone_way.GoneWay.{GoneWay}
 use Rattle.looseparts.proofs.Lists.{one_more, all_seen}
 use Rattle.looseparts.proofs.repeats.do_concern_ways.Goals as goal
 

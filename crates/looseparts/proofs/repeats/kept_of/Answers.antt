@@ -7,7 +7,7 @@ use Rattle.loose.specs.declared.transition.LooseTransition.{LooseTransition}
 use Rattle.loose.specs.Classes.{class_in}
 use Rattle.looseparts.specs.FoundWays.{ways_in}
 use Rattle.looseparts.specs.GoneWays.{AreWaysKept, ComesTo}
-use Rattle.looseparts.specs.declared.repeats.GoneWay.{GoneWay}
+use Rattle.looseparts.specs.declared.gone_way.GoneWay.{GoneWay}
 use Rattle.looseparts.proofs.GoneAgain.{none_kept, kept_more}
 use Rattle.looseparts.proofs.repeats.kept_of.Goals as goal
 

@@ -8,7 +8,7 @@ use Rattle.loose.specs.Classes.{class_in}
 use Rattle.looseparts.specs.StandTogether.{concern}
 use Rattle.looseparts.specs.FoundWays.{ways_in}
 use Rattle.looseparts.specs.GoneWays.{AreWaysKept, ways_of}
-use Rattle.looseparts.specs.declared.repeats.GoneWay.{GoneWay}
+use Rattle.looseparts.specs.declared.gone_way.GoneWay.{GoneWay}
 use Rattle.looseparts.proofs.GoneAgain.{as_well, as_well_same}
 use Rattle.looseparts.proofs.repeats.leave_out.Goals as goal
 

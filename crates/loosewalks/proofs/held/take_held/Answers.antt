@@ -11,8 +11,8 @@ use Rattle.loosewalks.proofs.held.take_held.Goals as goal
 
 pub returns-clause-done : goal.returns-clause-done
 returns-clause-done c = λ on limits may.
-    let network = c.args.scope.network.now in
-    let held = c.args.held.now in
+    let network = c.args.holding.scope.network.now in
+    let held = c.args.holding.held.now in
     let old = c.args.machine.now in
     let us = c.active.result.0.now.items in
     let es = c.active.result.1.now.items in

@@ -9,19 +9,19 @@ use Rattle.loosewalks.proofs.held.take_held_until_settled.Goals as goal
 
 pub settle_since-requires : goal.settle_since-requires
 settle_since-requires c =
-    record { found = subst (λ (k : Compiled). IsNetworkOf k c.args.scope.network.now) (sym c.take_held.ensures.code) c.requires }
+    record { found = subst (λ (k : Compiled). IsNetworkOf k c.args.holding.scope.network.now) (sym c.take_held.ensures.code) c.requires }
 
 pub members_settled_since-requires : goal.members_settled_since-requires
 members_settled_since-requires c =
-    record { found = subst (λ (k : Compiled). IsNetworkOf k c.args.scope.network.now) (sym c.take_held.ensures.code) c.requires }
+    record { found = subst (λ (k : Compiled). IsNetworkOf k c.args.holding.scope.network.now) (sym c.take_held.ensures.code) c.requires }
 
 pub returns-then-branch-clause-done : goal.returns-then-branch-clause-done
 returns-then-branch-clause-done c = λ on limits may.
     let old = c.args.machine.now in
-    let through : HasHeld (class_in c.args.scope.rules.classes.now) limits old c.args.scope.network.now c.args.held.now c.take_held.new.room.way.items c.take_held.new.machine =
+    let through : HasHeld (class_in c.args.holding.scope.rules.classes.now) limits old c.args.holding.scope.network.now c.args.holding.held.now c.take_held.new.room.way.items c.take_held.new.machine =
     c.in_ok-take_held.ensures.done c.if-not-branch.false limits may in
     record {
       through = through;
       settle = λ time.
-          c.in_ok-settle_since.ensures c.if-branch.true old (held_rests c.in_ok-begin.begin old c.take_held.new.machine c.args.scope.network.now c.args.held.now c.in_ok-begin.ensures may (sym c.take_held.ensures.code) time through.passed.over);
+          c.in_ok-settle_since.ensures c.if-branch.true old (held_rests c.in_ok-begin.begin old c.take_held.new.machine c.args.holding.scope.network.now c.args.holding.held.now c.in_ok-begin.ensures may (sym c.take_held.ensures.code) time through.passed.over);
     }

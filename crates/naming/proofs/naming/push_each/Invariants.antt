@@ -1,7 +1,9 @@
-use Rattle.std.proofs.Common.{◌+◌, option_map, take}
-use Rattle.naming.specs.Naming.{IsFoundTold, TellsEach}
+-- Those that were looked at are told.
+use Rattle.std.proofs.Common.{◌+◌, ◌≤◌, map, option_map, take}
+use Rattle.naming.specs.Naming.{TellsSome, parting_of}
 use Rattle.naming.proofs.naming.push_each.Given as goal
 
 abbrev pub invariant-loop-place : goal.invariant-loop-place
 invariant-loop-place l =
-    TellsEach (IsFoundTold l.processes l.names.design.now l.names.shown.now (option_map (λ path. path.now) l.names.prefix) l.found.original) (l.before + 1) (take l.place l.found.races.items) l.initial.text.items l.text.items
+    TellsSome l.processes l.names.design.now l.names.shown.now (option_map (λ path. path.now) l.names.prefix) (map (parting_of l.found.original) (take l.place l.races)) l.initial.text.items l.text.items l.initial.told l.told
+    × (l.told.number ≤ l.initial.told.number + l.place)

@@ -1,7 +1,11 @@
-use Rattle.std.proofs.Common.{◌≡◌, ◌∙◌, ap, ℕ, ◌+◌, ◌++◌, List, drop, length, option_map, sym, subst}
+use Rattle.std.proofs.Common.{◌≡◌, ◌∙◌, ap, ◌+◌, ◌++◌, List, ℕ, arith, drop, take, length, option_map, sym, subst}
+use Rattle.causes.specs.Causes.{numbered_causes}
 use Rattle.causes.specs.declared.parting_race.PartingRace.{PartingRace}
+use Rattle.races.specs.declared.told.Race.{Race}
 use Rattle.naming.specs.Begins.{AreProcessesOf}
-use Rattle.naming.specs.Naming.{IsCauseTold, TellsEach, unnamed_lines}
+use Rattle.naming.specs.LineOrders.{orders_text}
+use Rattle.naming.specs.declared.line_orders.LineOrder.{LineOrder}
+use Rattle.naming.specs.Naming.{TellsSome, numbered_before, numbered_races, unnamed_lines}
 use Rattle.naming.proofs.Races.{tells_more_behind}
 use Rattle.naming.proofs.naming.push_more_races.Goals as goal
 
@@ -9,14 +13,23 @@ pub returns : goal.returns
 returns c =
     let names = c.args.names.now in
     let prefix = option_map (λ path. path.now) names.prefix in
-    let begins = c.deref.result.now in
+    let begins = c.as_slice-begins.result.now in
     let before = c.args.before in
+    let found = c.args.found.now in
     let causes = c.args.causes.now in
     let old = c.args.text.now.items in
     let mid = c.push_parting.new.text.items in
-    let of_source = subst (AreProcessesOf names.source.now) (sym c.deref.ensures.value) c.in_ok-processes.ensures in
+    let next = c.push_orders.new.text.items in
+    let started = c.told_before-told.result in
+    let after = c.push_parting.new.told in
+    let of_source = subst (AreProcessesOf names.source.now) (sym c.as_slice-begins.ensures.value) c.in_ok-processes.ensures in
+    let early : c.split_at.result.0.now ≡ take before causes.causes.items = c.split_at.ensures.front ∙ ap (take before) c.as_slice.ensures.value in
     let more : c.split_at.result.1.now ≡ drop before causes.causes.items = c.split_at.ensures.back ∙ ap (drop before) c.as_slice.ensures.value in
-    let behind = subst (λ (n : ℕ). TellsEach (IsCauseTold begins names.design.now names.shown.now prefix) (n + before + 1) c.split_at.result.1.now old mid) (c.len.ensures ∙ c.args.found.now.races.ok.0) c.in_ok-push_parting.ensures in
-    let parting = subst (λ (cs : List PartingRace). TellsEach (IsCauseTold begins names.design.now names.shown.now prefix) (length c.args.found.now.races.items + before + 1) cs old mid) more behind in
-    tells_more_behind c.push_end.result names.source.now begins names.design.now names.shown.now prefix names.race_bounds c.args.found.now before causes old mid c.push_unnamed_texts.new.text.items c.push_end.new.text.items of_source
-    parting (c.in_ok-push_unnamed_texts.ensures ∙ ap (λ (ns : List ℕ). mid ++ unnamed_lines ns) c.as_slice-2.ensures.value) c.push_end.ensures
+    let found_count : c.numbered_found.result ≡ length (numbered_races found.races.items) = c.numbered_found.ensures.value ∙ ap (λ (rs : List Race). length (numbered_races rs)) c.as_slice-2.ensures.value in
+    let early_count : c.numbered_count.result ≡ length (numbered_causes (take before causes.causes.items)) = c.numbered_count.ensures.value ∙ ap (λ (cs : List PartingRace). length (numbered_causes cs)) early in
+    let first : started.number ≡ numbered_before found before causes.causes.items + 1 = omega (arith, c.told_before-told.ensures.number, found_count, early_count) in
+    let some = subst (λ (cs : List PartingRace). TellsSome begins names.design.now names.shown.now prefix cs old mid started after) more c.in_ok-push_parting.ensures.tells in
+    let orders = c.in_ok-push_orders.ensures ∙ ap (λ (os : List LineOrder). mid ++ orders_text begins prefix os) c.as_slice-3.ensures.value in
+    let unnamed = c.in_ok-push_unnamed_texts.ensures ∙ ap (λ (ns : List ℕ). next ++ unnamed_lines ns) c.as_slice-4.ensures.value in
+    tells_more_behind c.push_alone.result names.source.now begins names.design.now names.shown.now prefix names.race_bounds found before causes old mid next c.push_unnamed_texts.new.text.items c.push_end.new.text.items c.push_alone.new.text.items
+    started after of_source first c.told_before-told.ensures.none some orders unnamed c.in_ok-push_end.ensures c.push_alone.ensures

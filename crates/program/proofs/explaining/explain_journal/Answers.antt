@@ -1,14 +1,21 @@
--- The presentation is that of the request.
-use Rattle.std.proofs.Common.{◌≡◌, ◌∙◌, ap, subst, IfErr, rules}
-use Rattle.explain.specs.ExplainedText.{presentation_of}
-use Rattle.explain.specs.declared.telling.Presentation.{Presentation}
-use Rattle.program.specs.declared.fault.CommandFault.{CommandFault}
-use Rattle.program.specs.Printed.{HasExplainedSome}
-use Rattle.program.specs.Program.{status_of}
+-- FILE is read and JOURNAL opened, and the journal is told on the design of the source.
+use Rattle.std.proofs.Common.{inl, subst, sym, rules}
+use Rattle.files.specs.Saved.{IsHeld}
+use Rattle.program.proofs.Ended.{if_err, output_same}
 use Rattle.program.proofs.explaining.explain_journal.Goals as goal
+
+pub returns-clause-ended : goal.returns-clause-ended
+returns-clause-ended g c =
+    c.explain_asked.ensures.ended (g.F.Files.held c.args.files.now) c.args.request.now.file.now c.args.request.now.journal.now
+    (subst (IsHeld (g.F.Files.held c.args.files.now) c.args.request.now.file.now) (sym c.as_slice-text.ensures.value) c.in_ok-source.ensures.read) (search rules)
 
 pub returns-clause-refused : goal.returns-clause-refused
 returns-clause-refused g c =
-    subst (λ (w : Presentation). IfErr c.explain_bytes.result (λ (fault : CommandFault). status_of fault ≡ 5 → HasExplainedSome (g.F.Files.held c.args.files.now) c.args.request.now.file.now c.args.request.now.journal.now w (g.O.Write.contents c.args.out.now) (g.O.Write.contents c.explain_bytes.new.out) fault))
-    (c.between.ensures ∙ ap (presentation_of c.args.request.now.from c.args.request.now.to) c.style.ensures)
-    (c.explain_bytes.ensures.refused (g.F.Files.held c.args.files.now) c.args.request.now.file.now c.args.request.now.journal.now (search rules) (search rules))
+    c.explain_asked.ensures.refused (g.F.Files.held c.args.files.now) c.args.request.now.file.now c.args.request.now.journal.now
+    (subst (IsHeld (g.F.Files.held c.args.files.now) c.args.request.now.file.now) (sym c.as_slice-text.ensures.value) c.in_ok-source.ensures.read) (search rules)
+
+pub returns-in_err-design-clause-refused : goal.returns-in_err-design-clause-refused
+returns-in_err-design-clause-refused g c = if_err _ c.from_residual-in_err-design.result (λ f five. inl (output_same (g.O.Write.contents c.args.out.now)))
+
+pub returns-in_err-design-clause-nothing : goal.returns-in_err-design-clause-nothing
+returns-in_err-design-clause-nothing g c = if_err _ c.from_residual-in_err-design.result (λ f three. output_same (g.O.Write.contents c.args.out.now))

@@ -1,10 +1,10 @@
 -- What the status tells of how a command ended.
-use Rattle.std.proofs.Common.{◌≡◌, ◌⊎◌, ◌≤◌, ◌∙◌, inr, sym, subst, ℕ}
+use Rattle.std.proofs.Common.{◌≡◌, ◌⊎◌, ◌≤◌, ◌∙◌, inl, inr, sym, subst, ℕ}
 use Rattle.journal.specs.Counted.{held}
 use Rattle.arguments.specs.CommandWords.{texts_of}
 use Rattle.program.specs.Printed.{IsUnprinted, untouched}
 use Rattle.program.specs.StandardError.{IsReported}
-use Rattle.program.proofs.Ended.{IsSourceStatus, done_by_status, right_by_status, faulty_by_status, refused_by_status, stopped_by_status, wanting_by_status, several_by_status, nothing_by_status, unsaved_by_status, silent_by_status, source_status, told_by_status, refused_done, kept}
+use Rattle.program.proofs.Ended.{IsSourceStatus, done_by_status, unnamed_by_status, faulty_by_status, refused_by_status, stopped_by_status, wanting_by_status, several_by_status, nothing_by_status, unsaved_by_status, silent_by_status, source_status, told_by_status, refused_done, refused_wrong, kept}
 use Rattle.program.proofs.Statuses.{at_most_seven}
 use Rattle.program.proofs.program.command.Goals as goal
 
@@ -18,7 +18,8 @@ returns-in-Ok-clause-done g c = λ e.
     done_by_status (g.F.Files.held c.args.files.now) (texts_of c.args.words.now) (g.O.Write.contents (held c.args.out.now)) (g.O.Write.contents (held c.perform-ended.new.out)) (g.F.Files.made c.args.files.now) (g.F.Files.made c.perform-ended.new.files) c.perform-ended.result (c.perform-ended.ensures.ended (texts_of c.args.words.now) c.in-Ok.ensures.asked) (sym c.finish.ensures.status ∙ e)
 
 pub returns-in-Ok-clause-wrong : goal.returns-in-Ok-clause-wrong
-returns-in-Ok-clause-wrong g c = λ e. absurd (right_by_status c.perform-ended.result (sym c.finish.ensures.status ∙ e))
+returns-in-Ok-clause-wrong g c = λ e.
+    inr (unnamed_by_status (g.F.Files.held c.args.files.now) (texts_of c.args.words.now) (g.O.Write.contents (held c.args.out.now)) (g.O.Write.contents (held c.perform-ended.new.out)) (g.F.Files.made c.args.files.now) (g.F.Files.made c.perform-ended.new.files) g.E.Write.contents c.args.err.now c.finish.new.err c.perform-ended.result (c.perform-ended.ensures.ended (texts_of c.args.words.now) c.in-Ok.ensures.asked) c.finish.ensures.told (sym c.finish.ensures.status ∙ e))
 
 pub returns-in-Ok-clause-refused : goal.returns-in-Ok-clause-refused
 returns-in-Ok-clause-refused g c = λ e begins.
@@ -77,3 +78,6 @@ returns-in-Err-clause-nothing g c = λ e. c.refuse.ensures.nothing (source_statu
 
 pub returns-in-Err-clause-wanting : goal.returns-in-Err-clause-wanting
 returns-in-Err-clause-wanting g c = λ six. inr (untouched (c.refuse.ensures.wanting six) (kept (g.F.Files.made c.args.files.now)))
+
+pub returns-in-Err-clause-wrong : goal.returns-in-Err-clause-wrong
+returns-in-Err-clause-wrong g c = λ two. inl (refused_wrong (texts_of c.args.words.now) c.in-Err.no_request c.refuse.result c.in-Err.ensures.refused c.refuse.ensures.status two)

@@ -12,6 +12,6 @@ returns-clause-found g c =
     let few = subst (λ (n : ℕ). length all.shown.items ≤ n) c.add_all-added.ensures.grows.most c.add_all-added.ensures.few.few in
     let full = subst (λ (n : ℕ). IfOk c.add_all-added.result (λ b. b ≡ false → length all.shown.items ≡ n)) c.add_all-added.ensures.grows.most c.add_all-added.ensures.full in
     searched_found (λ (j : Vec Entry). j.items) c.args.design.now c.args.search_options explored.result.stopped c.stop_of-stopped.result explored.result.nodes explored.result.endless c.endless_of-endless.result c.number_of-number.result
-    c.claim_of-claim.result c.add_all-added.result c.args.known.items explored.result.shown.items c.add_all-added.new.self.shown.items c.in-None.is explored.ensures.few c.claim_of-claim.ensures c.stop_of-stopped.ensures
+    c.claim_of-claim.result c.add_all-added.result c.args.known.items explored.result.shown.items c.add_all-added.new.self.shown.items c.in-None.is (subst (λ (n : ℕ). explored.result.nodes ≤ n) c.bounds_of-bounds.ensures.nodes explored.ensures.few) c.claim_of-claim.ensures c.stop_of-stopped.ensures
     c.endless_of-endless.ensures (c.number_of-number.ensures ∙ ap (λ (n : ℕ). option_map (λ j. n + 1) c.endless_of-endless.result) (ap length c.as_slice.ensures.value)) explored.ensures.sound explored.ensures.within explored.ensures.distinct
-    explored.ensures.full explored.ensures.all explored.ensures.endless c.requires.lawful c.add_all-added.ensures.lawful c.add_all-added.ensures.there full c.add_all-added.ensures.few.distinct few
+    (λ is. explored.ensures.full is ∙ c.bounds_of-bounds.ensures.shown) explored.ensures.all explored.ensures.endless c.requires.lawful c.add_all-added.ensures.each c.add_all-added.ensures.there full c.add_all-added.ensures.few.distinct few

@@ -1,8 +1,8 @@
 -- One line more, until there are no more.
 use Rattle.std.proofs.Common.{ℕ, ◌-◌, List, [], length, take, rules, arith, subst, sym}
 use Rattle.wavetexts.specs.AtTimes.{left_after, lines_of}
-use Rattle.wavetexts.specs.Partings.{StandsBehind, time_after}
-use Rattle.wavetexts.proofs.Standing.{stands_done, stands_last, stands_on}
+use Rattle.wavetexts.specs.Partings.{TextStandsBehind, time_after}
+use Rattle.wavetexts.proofs.TextStanding.{stands_done, stands_last, stands_on}
 use Rattle.wavetexts.proofs.parting.standing_before.Goals as goal
 
 pub loop-before-init : goal.loop-before-init
@@ -15,8 +15,8 @@ loop-before-preserved c = λ left time stands.
     let rest = take (c.loop-before.before - 1 - 1) (lines_of c.in-Some.more.now) in
     c.loop-before.invariant left time
     (stands_on registers left time s.left s.time.now c.loop-before.before c.in-Some.line.now (lines_of c.loop-before.rest.now) (lines_of c.in-Some.more.now) (omega (arith, c.loop-before-test.true)) c.in-Some.ensures.some
-    (subst (λ (n : ℕ). StandsBehind registers left time n (time_after s.left c.in-Some.line.now s.time.now) rest) c.stand_on-standing.ensures.left
-    (subst (λ (at : List ℕ). StandsBehind registers left time c.stand_on-standing.result.left at rest) c.stand_on-standing.ensures.time stands)))
+    (subst (λ (n : ℕ). TextStandsBehind registers left time n (time_after s.left c.in-Some.line.now s.time.now) rest) c.stand_on-standing.ensures.left
+    (subst (λ (at : List ℕ). TextStandsBehind registers left time c.stand_on-standing.result.left at rest) c.stand_on-standing.ensures.time stands)))
 
 pub returns-in-None : goal.returns-in-None
 returns-in-None c =

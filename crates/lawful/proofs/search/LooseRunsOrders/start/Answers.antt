@@ -1,15 +1,18 @@
 -- The node at which each run starts.
-use Rattle.std.proofs.Common.{◌≡◌, ◌∙◌, ap, refl, subst}
+use Rattle.std.proofs.Common.{◌≡◌, ◌∙◌, [], ap, refl, subst}
 use Rattle.model.specs.States.{start}
 use Rattle.design.specs.Compiled.{Compiled, design_of}
 use Rattle.loose.specs.Classes.{class_in}
 use Rattle.design.specs.DesignInvariant.{controls_of}
 use Rattle.regions.specs.Machine.{MachineView}
+use Rattle.lawful.specs.declared.node.LooseNode.{LooseNode}
 use Rattle.lawful.proofs.Ways.{node_at_start}
 use Rattle.lawful.proofs.search.LooseRunsOrders.start.Goals as goal
 
 pub returns : goal.returns
-returns c =
+returns g c =
     let o = c.args.self.now in
-    node_at_start (class_in o.classes.items) o.analyzed_design o.limits (record { machine = c.in_ok-machine.machine }) c.in_ok-machine.machine.value refl (c.in_ok-machine.ensures.code ∙ c.design.ensures)
-    (subst (λ (p : MachineView). p.core.controls ≡ controls_of p.code) c.deref.ensures c.stands.ensures.controls) c.in_ok-machine.ensures.lines (c.in_ok-machine.ensures.state ∙ ap (λ (k : Compiled). start (design_of k)) c.design.ensures)
+    let node : LooseNode = record { machine = c.in_ok-machine.machine } in
+    g.met.T.RunTelling.stands_told o.telling.now o.analyzed_design (class_in o.classes.items) o.limits node []
+    (node_at_start (class_in o.classes.items) o.analyzed_design o.limits node c.in_ok-machine.machine.value refl (c.in_ok-machine.ensures.code ∙ c.design.ensures)
+    (subst (λ (p : MachineView). p.core.controls ≡ controls_of p.code) c.deref.ensures c.stands.ensures.controls) c.in_ok-machine.ensures.lines (c.in_ok-machine.ensures.state ∙ ap (λ (k : Compiled). start (design_of k)) c.design.ensures))

@@ -1,0 +1,8 @@
+-- The rows of what was found have the same text.
+use Rattle.std.proofs.Common.{◌∙◌, sym}
+use Rattle.clap.specs.Words.{found_of}
+use Rattle.clap.proofs.WalkLemmas.{first_value-rows}
+use Rattle.arguments.proofs.given.given_text.Goals as goal
+
+pub returns : goal.returns
+returns c = sym (c.get_str.ensures ∙ first_value-rows (found_of c.args.matches.now) c.args.name.now)
