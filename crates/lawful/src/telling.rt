@@ -2,20 +2,11 @@
 ghost use Rattle.std.specs.Prelude.{◌≡◌, ◌≤◌, ◌↔◌, ℕ, List, [], IsTrue, IfOk, IfSome};
 ghost use Rattle.model.specs.declared.end.Limits.{Limits as RunLimits};
 ghost use Rattle.model.specs.declared.entry.Entry.{Entry as JournalEntry};
-ghost use Rattle.model.specs.Runs.{last_time};
-ghost use Rattle.model.specs.States.{State};
-ghost use Rattle.model.specs.Texts.{AreAllTexts};
 ghost use Rattle.design.specs.Compiled.{Compiled, design_of};
-ghost use Rattle.regions.specs.Machine.{state_at};
 ghost use Rattle.explore.specs.SearchedRuns.{Runs};
 ghost use Rattle.loose.specs.declared.transition.LooseTransition.{LooseTransition as Transition};
-ghost use Rattle.looseruns.specs.ObservedJournals.{AreAllObservedTexts};
-ghost use Rattle.loosejournals.specs.FoundJournals.{IsJournalOf, IsObservedJournalOf};
-ghost use Rattle.observers.specs.Observers.{observer_of};
 ghost use Rattle.lawful.specs.Journals.{IsTextAmong};
-ghost use Rattle.lawful.specs.LooseNodes.{IsExpandedAt, searched_runs};
-ghost use Rattle.lawful.specs.ObservedNodes.{searched_observed};
-ghost use Rattle.lawful.specs.Told.{AreWaysFrom};
+ghost use Rattle.lawful.specs.LooseNodes.{searched_runs};
 ghost use Rattle.lawful.specs.declared.node.LooseNode.{LooseNode as Node};
 
 use crate::expand::LooseWays;
@@ -43,12 +34,16 @@ pub(crate) type ToldWays<'d, E> = Result<Expanded<LooseNode<'d>, LooseTransition
 
 /// What is told of runs, and of their ends.
 pub(crate) trait RunTelling: Drop {
+    ghost use Rattle.model.specs.Runs.{last_time};
+    ghost use Rattle.model.specs.States.{State};
+    ghost use Rattle.regions.specs.Machine.{state_at};
     ghost use Rattle.explore.specs.Search.{AreAllShown, IsEndless, Serves};
     ghost use Rattle.explore.specs.declared.Shown.{Shown as ShownRun};
     ghost use Rattle.statekeys.specs.ClassKeys.{IsClassKey};
     ghost use Rattle.looseruns.specs.LooseRuns.{StandsLoosely};
     ghost use Rattle.lawful.specs.Journals.{texts_and_ends};
-    ghost use Rattle.lawful.specs.LooseNodes.{HoldsEffect};
+    ghost use Rattle.lawful.specs.LooseNodes.{HoldsEffect, IsExpandedAt};
+    ghost use Rattle.lawful.specs.Told.{AreWaysFrom};
 
     /// What is told of a run's end.
     type End: Drop;
@@ -113,6 +108,8 @@ pub(crate) struct LinesAlone;
 
 impl RunTelling for LinesAlone {
     ghost use Rattle.std.specs.Prelude.{refl};
+    ghost use Rattle.model.specs.Texts.{AreAllTexts};
+    ghost use Rattle.loosejournals.specs.FoundJournals.{IsJournalOf};
     ghost use Rattle.lawful.specs.Serving.{all_texts_told, loose_alike, loose_keyed};
 
     type End = End;
@@ -168,7 +165,11 @@ impl RunTelling for LinesAlone {
 // Of a run is told what is observed of it. Walks go no further than to where time passes, where what is seen is told before the lines.
 impl RunTelling for Observing {
     ghost use Rattle.std.specs.Prelude.{refl};
+    ghost use Rattle.looseruns.specs.ObservedJournals.{AreAllObservedTexts};
+    ghost use Rattle.loosejournals.specs.FoundJournals.{IsObservedJournalOf};
+    ghost use Rattle.observers.specs.Observers.{observer_of};
     ghost use Rattle.lawful.specs.Serving.{all_observed_told, endless_plainly, observed_alike, observed_keyed, stands_observed, stands_plainly};
+    ghost use Rattle.lawful.specs.ObservedNodes.{searched_observed};
 
     type End = ObservedEnd;
 

@@ -24,9 +24,11 @@ use regions::Machine;
 use settling::AnalyzedDesign;
 use std::alloc::{AllocError, Global};
 
-// The most steps of one walk where less is pending: a search looks for a state that it has seen at the end of each. That takes as long as
-// all that is pending, and so it is done once in as many steps.
+// The most steps of one walk where little is pending: a search looks for a state that it has seen at the end of each.
 const MOST_STEPS: usize = 256;
+
+// To look for such a state takes as long as all that is pending: so a walk may have these steps for each event of that.
+const STEPS_PER_EVENT: usize = 4;
 
 // The ways that are tried, one after another, until one stands for all.
 const WAYS: [WayThrough; 5] = [
@@ -142,7 +144,7 @@ pub fn walk_loosely(
         rules,
     };
     let mut walk = Walk::new(alloc);
-    let most = MOST_STEPS.max(pending(machine));
+    let most = MOST_STEPS.max(pending(machine).saturating_mul(STEPS_PER_EVENT));
     for _ in 0..most {
         if !go_on(scope, room, &mut walk, machine)? {
             return walk.into_moves();
