@@ -1,3 +1,4 @@
 pub mod Begun
 pub mod Races
 pub mod TextLaws
+pub mod UnseenNames

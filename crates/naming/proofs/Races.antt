@@ -21,6 +21,7 @@ use Rattle.locations.specs.declared.location.ProcessLocation.{ProcessLocation}
 use Rattle.naming.specs.Begins.{AreProcessesOf}
 use Rattle.naming.specs.LineOrders.{orders_text}
 use Rattle.naming.specs.TextOrders.{order_alone_text}
+use Rattle.naming.specs.UnseenRegisters.{unseen_text}
 use Rattle.naming.specs.declared.naming.ToldSoFar.{ToldSoFar}
 use Rattle.naming.specs.declared.line_orders.LineOrder.{LineOrder}
 use Rattle.naming.specs.Naming.{AddsOrder, AreEachTold, AreOrdersOf, IsCauseTold, TellsAlone, TellsBehind, TellsMoreBehind, TellsNumbered, TellsSome, all_races, line_orders, list_end_text, numbered_before, parting_of, races_text, unnamed_lines}
@@ -177,16 +178,17 @@ four : (old a b c d mid next last new : List ℕ) → mid ≡ old ++ a → next 
 four old a b c d mid next last new one other third end =
     three old a b (c ++ d) mid next new one other (end ∙ (ap (λ l. l ++ d) third ∙ append_assoc next c d))
 
--- the lines on further races that part texts, on texts for which none was found, by what their list was cut, and whether the texts differ only in the order of lines
-pub tells_more_behind : {A E : Type 0} (r : Result A E) (source : List ℕ) (begins : List ProcessLocation) (code : Compiled) (shown : List (Shown Entry End)) (prefix : Option (List ℕ)) (race_bounds : RaceBounds) (found : Found) (early : ℕ) (causes : Causes) (old mid next last end new : List ℕ) (before after : ToldSoFar)
+-- the lines on further races that part texts, on texts for which none was found, by what their list was cut, whether the texts differ only in the order of lines, and on registers that differ
+pub tells_more_behind : {A E : Type 0} (r : Result A E) (source : List ℕ) (begins : List ProcessLocation) (code : Compiled) (shown : List (Shown Entry End)) (prefix : Option (List ℕ)) (race_bounds : RaceBounds) (found : Found) (early : ℕ) (causes : Causes) (old mid next last end said new : List ℕ) (before after : ToldSoFar)
     → AreProcessesOf source begins → before.number ≡ numbered_before found early causes.causes.items + 1 → before.orders.items ≡ [] → TellsSome begins code shown prefix (drop early causes.causes.items) old mid before after
     → next ≡ mid ++ orders_text begins prefix after.orders.items → last ≡ next ++ unnamed_lines causes.unnamed.items → end ≡ last ++ list_end_text race_bounds causes.cut
-    → OnOk r (TellsAlone code shown end new) → OnOk r (TellsMoreBehind source code shown prefix race_bounds found early causes old new)
-tells_more_behind (Ok x) source begins code shown prefix race_bounds found early causes old mid next last end new before after of_source first none some orders unnamed cut alone =
+    → TellsAlone code shown end said → OnOk r (new ≡ said ++ unseen_text code (length shown) found.unseen) → OnOk r (TellsMoreBehind source code shown prefix race_bounds found early causes old new)
+tells_more_behind (Ok x) source begins code shown prefix race_bounds found early causes old mid next last end said new before after of_source first none some orders unnamed cut alone seen =
     let ended : List ℕ = list_end_text race_bounds causes.cut in
-    let said : List ℕ = order_alone_text alone.alone in
+    let words : List ℕ = order_alone_text alone.alone in
+    let names : List ℕ = unseen_text code (length shown) found.unseen in
     record {
-      lines = races_text some.told ++ (orders_text begins prefix some.kept ++ (unnamed_lines causes.unnamed.items ++ (ended ++ said)));
+      lines = races_text some.told ++ (orders_text begins prefix some.kept ++ (unnamed_lines causes.unnamed.items ++ (ended ++ (words ++ names))));
       tells = record {
         begins = begins;
         of_source = of_source;
@@ -198,8 +200,8 @@ tells_more_behind (Ok x) source begins code shown prefix race_bounds found early
         is_alone = alone.is_alone;
         lines_is = refl;
       };
-      new_is = four old (races_text some.told) (orders_text begins prefix some.kept) (unnamed_lines causes.unnamed.items) (ended ++ said) mid next last new some.new_is
+      new_is = four old (races_text some.told) (orders_text begins prefix some.kept) (unnamed_lines causes.unnamed.items) (ended ++ (words ++ names)) mid next last new some.new_is
           (orders_told begins code shown prefix (drop early causes.causes.items) old mid next before after none some orders) unnamed
-          (alone.new_is ∙ (ap (λ l. l ++ said) cut ∙ append_assoc last ended said));
+          (three last ended words names end said new cut alone.new_is seen);
     }
-tells_more_behind (Err x) source begins code shown prefix race_bounds found early causes old mid next last end new before after of_source first none some orders unnamed cut alone = tt
+tells_more_behind (Err x) source begins code shown prefix race_bounds found early causes old mid next last end said new before after of_source first none some orders unnamed cut alone seen = tt

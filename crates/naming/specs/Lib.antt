@@ -3,3 +3,4 @@ pub mod LineOrders
 pub mod Naming
 pub mod RaceWords
 pub mod TextOrders
+pub mod UnseenRegisters

@@ -4,7 +4,8 @@
 //! process by the line in which it begins, the line in which the two runs differ, and the numbers of their journals. Races for the order of
 //! lines come behind them, in one line for each time (`line_orders`), and then by what the list of races was cut, if it was.
 //!
-//! `push_more_races` does so with races that were found later, and says where texts differ only in the order of lines at one time (`alone`).
+//! `push_more_races` does so with races that were found later, and says where texts differ only in the order of lines at one time (`alone`),
+//! and where one text is told which registers differ in runs that print it (`unseen`).
 //!
 //! What the layer above uses: the contracts of both. The lines are those of `verdict`, with the names, the time, and the
 //! lines of the two runs; a journal is named by its number where it is that of the run, and nowhere else.
@@ -13,6 +14,7 @@
 mod alone;
 mod line_orders;
 mod naming;
+mod unseen;
 mod words;
 
 pub use naming::{RaceNames, push_more_races, push_races};

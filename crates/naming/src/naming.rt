@@ -6,6 +6,7 @@ ghost use Rattle.naming.specs.Naming.{AddsOrder, HasJournal, IsDifferenceTold, I
 
 use crate::alone::{differ_in_order, order_alone_line};
 use crate::line_orders::{LineOrder, push_orders};
+use crate::unseen::push_unseen;
 use crate::words::{cut_of, site_of, word_of};
 use accesses::are_same;
 use causes::{Causes, PartingRace, numbered_count};
@@ -83,7 +84,7 @@ fn told_before(alloc: Global, numbered: usize) -> ToldSoFar
 }
 
 /// Puts the lines on races that part texts, which were found behind so many of them and those of a first run, behind a text, then those on races for the order of
-/// lines, those on texts for which none was found, the one that says by what their list was cut, and one where texts differ only in the order of lines. Fails where memory is refused.
+/// lines, those on texts for which none was found, the one that says by what their list was cut, and those on what texts don't tell. Fails where memory is refused.
 pub fn push_more_races<'a>(
     alloc: Global,
     text: &mut Vec<u8>,
@@ -104,7 +105,8 @@ pub fn push_more_races<'a>(
     push_orders(alloc, text, begins, names.prefix, told.orders.as_slice())?;
     push_unnamed_texts(text, causes.unnamed.as_slice())?;
     push_end(text, names.race_bounds, causes.cut)?;
-    push_alone(alloc, text, names.design, names.shown)
+    push_alone(alloc, text, names.design, names.shown)?;
+    push_unseen(alloc, text, names.design, names.shown.len(), &found.unseen)
 }
 
 /// Puts the lines on texts for which no race was found behind a text.

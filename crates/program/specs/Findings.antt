@@ -20,6 +20,7 @@ use Rattle.seeded.specs.Seeds.{AreSampled}
 use Rattle.runs.specs.declared.run.RunRecord.{RunRecord}
 use Rattle.model.specs.Texts as orders
 use Rattle.races.specs.Races as shown_races
+use Rattle.races.specs.Unseen.{IsUnseen}
 use Rattle.races.specs.declared.told.Found.{Found}
 use Rattle.conflicts.specs.declared.bounds.RaceBounds.{RaceBounds}
 use Rattle.verdict.specs.declared.claim.Claim.{Claim}
@@ -219,12 +220,14 @@ HaveSomeEnds shown false = HaveOneEnd shown
 HaveSomeEnds shown true = HaveOneEnd shown → ⊥
 
 -- What a search for races has found in a design: a first run, and races of it, each of which a second run shows. No two are for one site and of the same two processes, and
--- the bounds hold within which they were looked for.
+-- the bounds hold within which they were looked for. Where registers are named that differ unseen, they do: they have other values in another lawful run which prints what the
+-- first one prints and ends like it.
 pub record AreRaces (design : Compiled) (limits : Limits) (race_bounds : RaceBounds) (found : Found) : Type 0 where
   pub original : recorded.IsRun design limits found.original
   pub races : All (shown_races.IsShownRace design limits found.original) found.races.items
   pub distinct : AllPairs shown_races.AreOthers found.races.items
   pub within : shown_races.IsWithinBounds race_bounds found.races.items found.tried found.cut
+  pub unseen : IfSome found.unseen (IsUnseen design limits found.original)
 
 -- where a run came to its end, its text and its end are among these, unless as many as may be are
 abbrev pub IsKnown : ℕ → List (Shown Entry End) → RunRecord → Type 0

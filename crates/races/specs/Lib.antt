@@ -1,2 +1,3 @@
 pub mod LineOrders
 pub mod Races
+pub mod Unseen

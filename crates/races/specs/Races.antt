@@ -1,5 +1,5 @@
 -- What a race shows, and how many there are.
-use Rattle.std.specs.Prelude.{◌≡◌, ◌≤◌, ◌⊎◌, ℕ, List, length, Option, Some}
+use Rattle.std.specs.Prelude.{◌≡◌, ◌≤◌, ◌⊎◌, ℕ, List, length, Option, Some, IfSome}
 use Rattle.std.specs.List.{All, AllPairs}
 use Rattle.model.specs.declared.entry.Entry.{Entry}
 use Rattle.model.specs.declared.end.Limits.{Limits}
@@ -13,6 +13,7 @@ use Rattle.conflicts.specs.declared.bounds.RaceBounds.{RaceBounds}
 use Rattle.conflicts.specs.declared.bounds.Bound.{Bound}
 use Rattle.conflicts.specs.declared.bounds.Bound.TheVariants.{Races, Pairs}
 use Rattle.races.specs.declared.trials.Trials.{Trials}
+use Rattle.races.specs.Unseen.{IsUnseen}
 use Rattle.accesses.specs.declared.role.Role.{Role}
 use Rattle.accesses.specs.declared.pair.Pair.{Pair}
 use Rattle.accesses.specs.Roles.{HasBothOrders}
@@ -45,6 +46,10 @@ IsRaceOf pair race = (race.site ≡ pair.site) × (race.first ≡ pair.first) ×
 abbrev pub IsNewBeside : List Race → Pair → Type 0
 IsNewBeside races pair = All (λ race. race.site ≡ pair.site → AreOfSame race.first race.second pair.first pair.second → ⊥) races
 
+-- a run is one of the design within the limits, and wants no memory
+abbrev pub IsRemembered : Compiled → Limits → RunRecord → Type 0
+IsRemembered code limits run = IsRun code limits run × WantsNoMemory run
+
 -- A second run: it is one of the design within the limits, wants no memory, and is apart from the first run.
 pub record IsSecond (code : Compiled) (limits : Limits) (original exchanged : RunRecord) : Type 0 where
   pub run : IsRun code limits exchanged
@@ -68,10 +73,12 @@ IsTrying bounds t = IsWithinBounds bounds t.races.items t.tried t.cut
 abbrev pub HasTried : RaceBounds → Trials → Trials → Type 0
 HasTried bounds old new = IsTrying bounds new × (new.races ≡ old.races) × (old.tried ≤ new.tried)
 
--- the races that are told so far keep within the bounds, each is shown, and no two are for one site and of the same two processes
+-- the races that are told so far keep within the bounds, each is shown, and no two are for one site and of the same two processes; and the
+-- unseen difference is one, if one is kept
 abbrev pub AreToldRaces : Compiled → Limits → RunRecord → RaceBounds → Trials → Type 0
 AreToldRaces code limits original bounds t =
     IsTrying bounds t × All (IsShownRace code limits original) t.races.items × AllPairs AreOthers t.races.items
+    × IfSome t.unseen (IsUnseen code limits original)
 
 -- a run of every design, within any limits: one of no entries, for which there was no memory
 abbrev pub IsOfAnyDesign : RunRecord → Type 0

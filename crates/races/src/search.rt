@@ -1,9 +1,10 @@
 //! The search for races.
-ghost use Rattle.std.specs.Prelude.{◌≡◌, []};
+ghost use Rattle.std.specs.Prelude.{◌≡◌, [], IfSome, None};
 ghost use Rattle.std.specs.List.{All, AllPairs};
 ghost use Rattle.runs.specs.RunRecords.{IsRun};
 ghost use Rattle.conflicts.specs.RunEndings.{HasTimeLimit};
 ghost use Rattle.races.specs.Races.{AreOthers, IsOfAnyDesign, IsShownRace, IsWithinBounds};
+ghost use Rattle.races.specs.Unseen.{IsUnseen};
 
 use crate::race_search::RaceSearch;
 use crate::told::Found;
@@ -31,6 +32,7 @@ fn nothing(alloc: Global) -> RunRecord
 fn without_races(alloc: Global, original: RunRecord) -> Found
     ensures original { result.original ≡ original }
     ensures none { result.races.items ≡ [] }
+    ensures seen { result.unseen ≡ None }
     ensures within { (bounds : RaceBounds) → IsWithinBounds bounds result.races.items result.tried result.cut }
 {
     Found {
@@ -38,6 +40,7 @@ fn without_races(alloc: Global, original: RunRecord) -> Found
         races: Vec::new(alloc),
         tried: 0,
         cut: Some(Bound::Memory),
+        unseen: None,
     }
 }
 
@@ -63,6 +66,8 @@ pub fn find_races<P: Progress>(
     ensures distinct { AllPairs AreOthers result.races.items }
     // The bounds hold, each race has taken a second run, and the list is cut by a bound only where it is met.
     ensures within { IsWithinBounds bounds result.races.items result.tried result.cut }
+    // The difference, if one is told, is one of the first run from another lawful run that prints the same and ends alike.
+    ensures unseen { IfSome result.unseen (IsUnseen design.now limits result.original) }
 {
     let mut run = match JournaledMachine::start(alloc, design, limits) {
         Ok(run) => run,
@@ -86,6 +91,7 @@ pub fn find_races<P: Progress>(
         races,
         tried,
         cut,
+        unseen,
         ..
     } = try_all(task, &recorder.conflicts, progress);
     Found {
@@ -93,5 +99,6 @@ pub fn find_races<P: Progress>(
         races,
         tried,
         cut,
+        unseen,
     }
 }

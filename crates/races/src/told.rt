@@ -3,6 +3,7 @@
 ghost use Rattle.std.specs.Prelude.{◌≡◌, if◌then◌else◌};
 ghost use Rattle.races.specs.LineOrders.{is_line_order};
 
+use crate::unseen::UnseenDifference;
 use accesses::{Role, Site};
 use conflicts::Bound;
 use runs::run::RunRecord;
@@ -19,13 +20,15 @@ pub struct Race {
 }
 
 /// What a search for races has found: the first run, the races, how many second runs were made, and by what the list of races
-/// was cut, the first that was met. None where each conflict that was found was tried.
+/// was cut, the first that was met. None where each conflict that was found was tried. And the first difference that was found of a second
+/// run which prints what the first run prints, and ends like it.
 #[derive(Drop)]
 pub struct Found {
     pub original: RunRecord,
     pub races: Vec<Race>,
     pub tried: usize,
     pub cut: Option<Bound>,
+    pub unseen: Option<UnseenDifference>,
 }
 
 /// Whether a site is the order of lines, the races for which are told in one line for each time.

@@ -1,12 +1,15 @@
 //! The tries of conflicts, and the races that they show.
-ghost use Rattle.std.specs.Prelude.{◌≡◌, ◌<◌, [], false, length, IfOk, IfNone, IfSome, IsTrue, Some, vec_len};
+ghost use Rattle.std.specs.Prelude.{◌≡◌, ◌<◌, [], false, length, IfOk, IfNone, IfSome, IsTrue, None, Some, vec_len};
 ghost use Rattle.std.specs.List.{All, AllPairs};
-ghost use Rattle.races.specs.Races.{AreOfSame, AreOthers, IsNewBeside, IsRaceOf, IsSecond, IsShownRace, IsTrying, HasTried, AreToldRaces};
+ghost use Rattle.runs.specs.RunRecords.{IsRun};
+ghost use Rattle.races.specs.Races.{AreOfSame, AreOthers, IsNewBeside, IsRaceOf, IsSecond, IsShownRace, IsRemembered, IsTrying, HasTried, AreToldRaces};
+ghost use Rattle.races.specs.Unseen.{IsUnseen, KeepsUnseen};
 ghost use Rattle.conflicts.specs.declared.bounds.Bound.TheVariants.{Races, Pairs};
 
 use crate::exchange::{Order, exchange};
 use crate::race_search::RaceSearch;
 use crate::told::Race;
+use crate::unseen::{UnseenDifference, unseen_difference};
 use accesses::{Pair, Site};
 use conflicts::{Bound, Conflict, Conflicts, SiteKind, has_both_orders, is_order, kind_of};
 use progress::Progress;
@@ -14,14 +17,15 @@ use runs::compared::{are_apart, wants_memory};
 use runs::run::RunRecord;
 use std::alloc::AllocError;
 
-/// What came of the tries so far: the races, how many second runs were made, how many entries may still be taken for them, and by what
-/// the list of races was cut, the first that was met.
+/// What came of the tries so far: the races, how many second runs were made, how many entries may still be taken for them, by what
+/// the list of races was cut, the first that was met, and the first difference that was found of a run which isn't apart.
 #[derive(Drop)]
 pub(crate) struct Trials {
     pub(crate) races: Vec<Race>,
     pub(crate) tried: usize,
     pub(crate) left: u64,
     pub(crate) cut: Option<Bound>,
+    pub(crate) unseen: Option<UnseenDifference>,
 }
 
 fn is_same_site(one: Site, other: Site) -> bool
@@ -87,25 +91,22 @@ fn cut_before(conflicts: &Conflicts) -> Option<Bound>
     }
 }
 
-// A second run of a conflict with its entries in this order, if it is apart from another run. Fails where it wants memory.
-fn apart_run<P: Progress>(
+// A second run of a conflict with its entries in this order, if it can be made. Fails where it wants memory.
+fn made_run<P: Progress>(
     task: RaceSearch<'_>,
     conflict: &Conflict,
     order: Order,
-    from: &RunRecord,
     left: &mut u64,
     progress: &P,
 ) -> Result<Option<RunRecord>, AllocError>
-    ensures { IfOk result (λ made. IfSome made (IsSecond task.entry.design.now task.entry.limits from.now)) }
+    ensures { IfOk result (λ made. IfSome made (IsRemembered task.entry.design.now task.entry.limits)) }
 {
     match exchange(task, conflict, order, left, progress) {
         Ok(Some(exchanged)) => {
             if wants_memory(&exchanged) {
                 Err(AllocError)
-            } else if are_apart(from, &exchanged) {
-                Ok(Some(exchanged))
             } else {
-                Ok(None)
+                Ok(Some(exchanged))
             }
         }
         Ok(None) => Ok(None),
@@ -141,12 +142,14 @@ impl Trials {
     pub(crate) fn new(task: RaceSearch<'_>, conflicts: &Conflicts) -> Trials
         ensures within { IsTrying task.entry.bounds result }
         ensures none { result.races.items ≡ [] }
+        ensures seen { result.unseen ≡ None }
     {
         Trials {
             races: Vec::new(task.alloc),
             tried: 0,
             left: task.bounds.entries,
             cut: cut_before(conflicts),
+            unseen: None,
         }
     }
 
@@ -183,6 +186,37 @@ impl Trials {
         None
     }
 
+    // Keeps in which registers a second run differs from the first one where no line shows it, unless such a difference was kept before.
+    fn note(&mut self, task: RaceSearch<'_>, exchanged: &RunRecord) -> Result<(), AllocError>
+        requires run { IsRun task.design.now task.limits exchanged.now }
+        ensures same { self.new ≡ record self.old { left = self.new.left; unseen = self.new.unseen } }
+        ensures unseen { KeepsUnseen task.entry.design.now task.entry.limits task.entry.original.now self.old.unseen self.new.unseen }
+    {
+        if self.unseen.is_none() {
+            self.unseen = unseen_difference(task, exchanged, &mut self.left)?;
+        }
+        Ok(())
+    }
+
+    // The second run, if it is apart from another run. Else it is looked for where it differs unseen.
+    fn apart_run(
+        &mut self,
+        task: RaceSearch<'_>,
+        from: &RunRecord,
+        exchanged: RunRecord,
+    ) -> Result<Option<RunRecord>, AllocError>
+        requires run { IsRemembered task.design.now task.limits exchanged }
+        ensures same { self.new ≡ record self.old { left = self.new.left; unseen = self.new.unseen } }
+        ensures unseen { KeepsUnseen task.entry.design.now task.entry.limits task.entry.original.now self.old.unseen self.new.unseen }
+        ensures made { IfOk result (λ made. IfSome made (IsSecond task.entry.design.now task.entry.limits from.now)) }
+    {
+        if are_apart(from, &exchanged) {
+            return Ok(Some(exchanged));
+        }
+        self.note(task, &exchanged)?;
+        Ok(None)
+    }
+
     // Makes a second run, if one is left. None where it isn't apart from another run.
     fn second_run<P: Progress>(
         &mut self,
@@ -194,6 +228,7 @@ impl Trials {
     ) -> Result<Option<RunRecord>, AllocError>
         requires within { IsTrying task.bounds self.old }
         ensures tried { HasTried task.entry.bounds self.old self.new }
+        ensures unseen { KeepsUnseen task.entry.design.now task.entry.limits task.entry.original.now self.old.unseen self.new.unseen }
         ensures made { IfOk result (λ made. IfSome made (IsSecond task.entry.design.now task.entry.limits from.now)) }
         ensures room { IfOk result (λ made. IfSome made (λ _. vec_len self.new.races < task.entry.bounds.races)) }
         ensures more { IfOk result (λ made. IfSome made (λ _. vec_len self.new.races < self.new.tried)) }
@@ -203,7 +238,10 @@ impl Trials {
             return Ok(None);
         }
         self.tried += 1;
-        let made = apart_run(task, conflict, order, from, &mut self.left, progress)?;
+        let made = match made_run(task, conflict, order, &mut self.left, progress)? {
+            Some(exchanged) => self.apart_run(task, from, exchanged)?,
+            None => None,
+        };
         if made.is_none() && self.left == 0 {
             self.cut_by(task, Bound::Entries);
         }
@@ -221,6 +259,7 @@ impl Trials {
     ) -> Result<bool, AllocError>
         requires within { IsTrying task.bounds self.old }
         ensures tried { HasTried task.entry.bounds self.old self.new }
+        ensures unseen { KeepsUnseen task.entry.design.now task.entry.limits task.entry.original.now self.old.unseen self.new.unseen }
     {
         if !conflict.before.is_tied {
             return Ok(true);
@@ -240,6 +279,7 @@ impl Trials {
         requires within { IsTrying task.bounds self.old }
         requires second { IsSecond task.design.now task.limits task.original.now turned }
         ensures tried { HasTried task.entry.bounds self.old self.new }
+        ensures unseen { KeepsUnseen task.entry.design.now task.entry.limits task.entry.original.now self.old.unseen self.new.unseen }
         ensures shown { IfOk result (λ race. IfSome race (IsShownRace task.entry.design.now task.entry.limits task.entry.original.now)) }
         ensures of { IfOk result (λ race. IfSome race (IsRaceOf conflict.now.pair)) }
     {
@@ -259,6 +299,7 @@ impl Trials {
     ) -> Result<Option<Race>, AllocError>
         requires within { IsTrying task.bounds self.old }
         ensures tried { HasTried task.entry.bounds self.old self.new }
+        ensures unseen { KeepsUnseen task.entry.design.now task.entry.limits task.entry.original.now self.old.unseen self.new.unseen }
         ensures shown { IfOk result (λ race. IfSome race (IsShownRace task.entry.design.now task.entry.limits task.entry.original.now)) }
         ensures of { IfOk result (λ race. IfSome race (IsRaceOf conflict.now.pair)) }
         ensures room { IfOk result (λ race. IfSome race (λ _. vec_len self.new.races < task.entry.bounds.races)) }
@@ -281,6 +322,7 @@ impl Trials {
         ensures within { IsTrying task.entry.bounds self.new }
         ensures shown { All (IsShownRace task.entry.design.now task.entry.limits task.entry.original.now) self.new.races.items }
         ensures distinct { AllPairs AreOthers self.new.races.items }
+        ensures unseen { IfSome self.new.unseen (IsUnseen task.entry.design.now task.entry.limits task.entry.original.now) }
     {
         if self.races.push(race).is_err() {
             self.cut_by(task, Bound::Memory);

@@ -4,3 +4,4 @@ pub mod RaceLines
 pub mod Verdicts
 pub mod CutLines
 pub mod WaveLines
+pub mod UnseenLines

@@ -31,5 +31,6 @@ returns c =
     let some = subst (λ (cs : List PartingRace). TellsSome begins names.design.now names.shown.now prefix cs old mid started after) more c.in_ok-push_parting.ensures.tells in
     let orders = c.in_ok-push_orders.ensures ∙ ap (λ (os : List LineOrder). mid ++ orders_text begins prefix os) c.as_slice-3.ensures.value in
     let unnamed = c.in_ok-push_unnamed_texts.ensures ∙ ap (λ (ns : List ℕ). next ++ unnamed_lines ns) c.as_slice-4.ensures.value in
-    tells_more_behind c.push_alone.result names.source.now begins names.design.now names.shown.now prefix names.race_bounds found before causes old mid next c.push_unnamed_texts.new.text.items c.push_end.new.text.items c.push_alone.new.text.items
-    started after of_source first c.told_before-told.ensures.none some orders unnamed c.in_ok-push_end.ensures c.push_alone.ensures
+    let seen = c.push_unseen.ensures in
+    tells_more_behind c.push_unseen.result names.source.now begins names.design.now names.shown.now prefix names.race_bounds found before causes old mid next c.push_unnamed_texts.new.text.items c.push_end.new.text.items c.push_alone.new.text.items c.push_unseen.new.text.items
+    started after of_source first c.told_before-told.ensures.none some orders unnamed c.in_ok-push_end.ensures c.in_ok-push_alone.ensures seen

@@ -1,0 +1,292 @@
+//! Registers that have other values in two runs which print the same and end alike.
+ghost use Rattle.std.specs.Prelude.{◌≡◌, ◌++◌, [], drop, length, option_copied, IfOk, IfSome, IsTrue, OnOk};
+ghost use Rattle.logic4.specs.Operators.{same_vector};
+ghost use Rattle.model.specs.States.{start};
+ghost use Rattle.design.specs.Compiled.{design_of};
+ghost use Rattle.regions.specs.Machine.{state_at};
+ghost use Rattle.runs.specs.Compared.{AreLike};
+ghost use Rattle.runs.specs.RunRecords.{IsRun};
+ghost use Rattle.races.specs.Unseen.{DifferWhenPassing, IsUnseen, PassesBefore, PassesIn, StandsInRun, is_at_rest, is_stopped_at_rest, other_values, with_register};
+
+use crate::beside::{Passing, first_parting};
+use crate::race_search::RaceSearch;
+use accesses::lead;
+use design::{Design, RegId};
+use logic4::bits::Bits;
+use model::end::{End, Why};
+use model::entry::Entry;
+use regions::Machine;
+use runs::compared::is_same;
+use runs::run::RunRecord;
+use std::alloc::{AllocError, Global};
+
+/// Registers whose values differ in two runs which print the same and end alike: when which time passes, and their numbers.
+#[derive(Drop)]
+pub struct UnseenDifference {
+    pub time: u64,
+    pub registers: Vec<RegId>,
+}
+
+// Keeps a register, unless its two values are the same.
+fn push_other(
+    registers: &mut Vec<RegId>,
+    register: RegId,
+    first: Bits,
+    second: Bits,
+) -> Result<(), AllocError>
+    ensures { OnOk result (registers.new.items ≡ registers.old.items ++ with_register (same_vector first second) register []) }
+{
+    if first == second {
+        return Ok(());
+    }
+    registers.push(register)?;
+    Ok(())
+}
+
+// Keeps each register whose values differ.
+fn push_others(
+    found: &mut Vec<RegId>,
+    registers: u32,
+    firsts: &[Bits],
+    seconds: &[Bits],
+) -> Result<(), AllocError>
+    requires firsts { length firsts.now ≡ registers }
+    requires seconds { length seconds.now ≡ registers }
+    ensures { OnOk result (found.new.items ≡ found.old.items ++ other_values 0 firsts.now seconds.now) }
+{
+    for register in 0..registers {
+        push_other(
+            found,
+            register,
+            firsts[register as usize],
+            seconds[register as usize],
+        )?;
+    }
+    Ok(())
+}
+
+// The registers whose values differ where two machines stand.
+fn other_registers(
+    alloc: Global,
+    one: &Machine<'_>,
+    other: &Machine<'_>,
+) -> Result<Vec<RegId>, AllocError>
+    requires { other.now.code ≡ one.now.code }
+    ensures { IfOk result (λ found. found.items ≡ other_values 0 one.now.values other.now.values) }
+{
+    one.stands();
+    other.stands();
+    let mut found = Vec::new(alloc);
+    push_others(
+        &mut found,
+        one.design().registers(),
+        one.store().values(),
+        other.store().values(),
+    )?;
+    Ok(found)
+}
+
+// Whether a time passes where a machine stands before an entry, or before none.
+fn passes(machine: &Machine<'_>, next: Option<Entry>, time: u64) -> bool
+    ensures { IsTrue result → PassesBefore time (state_at machine.now) next }
+{
+    match next {
+        Some(Entry::Advance(next)) => machine.time() <= time && time < next,
+        Some(_) => false,
+        None => !machine.is_finished() && machine.time() == time,
+    }
+}
+
+// Whether a time passes in the run of a journal where a machine stands behind so many entries of it.
+fn passes_in(machine: &Machine<'_>, journal: &[Entry], count: usize, time: u64) -> bool
+    requires { StandsInRun machine.now.code journal.now count machine.now }
+    ensures { IsTrue result → PassesIn (design_of machine.now.code) journal.now time (state_at machine.now) }
+{
+    passes(machine, journal.get(count).copied(), time)
+}
+
+// Whether a time passes in both of two runs where machines of them stand.
+fn passes_in_both(
+    one: &Machine<'_>,
+    other: &Machine<'_>,
+    first: &[Entry],
+    second: &[Entry],
+    passing: Passing,
+) -> bool
+    requires one { StandsInRun one.now.code first.now passing.first one.now }
+    requires other { StandsInRun one.now.code second.now passing.second other.now }
+    ensures one { IsTrue result → PassesIn (design_of one.now.code) first.now passing.time (state_at one.now) }
+    ensures other { IsTrue result → PassesIn (design_of one.now.code) second.now passing.time (state_at other.now) }
+{
+    passes_in(one, first, passing.first, passing.time)
+        && passes_in(other, second, passing.second, passing.time)
+}
+
+// Leads a machine from its start behind so many entries of a journal. The answer is whether there are so many, and all were taken.
+fn lead_behind(machine: &mut Machine<'_>, journal: &[Entry], count: usize) -> bool
+    requires { state_at machine.old ≡ start (design_of machine.old.code) }
+    ensures { IsTrue result → StandsInRun machine.old.code journal.now count machine.new }
+{
+    if count > journal.len() {
+        return false;
+    }
+    lead(machine, journal.split_at(count).0)
+}
+
+// A machine that stands behind so many entries of a journal. None where there aren't so many, or it takes them not all.
+fn stand_behind<'d>(
+    alloc: Global,
+    design: &'d Design,
+    journal: &[Entry],
+    count: usize,
+) -> Result<Option<Box<Machine<'d>>>, AllocError>
+    ensures { IfOk result (λ found. IfSome found (λ machine. StandsInRun design.now journal.now count machine.value)) }
+{
+    let machine = Machine::start(alloc, design)?;
+    let mut machine = Box::new(alloc, machine)?;
+    if lead_behind(&mut machine, journal, count) {
+        Ok(Some(machine))
+    } else {
+        Ok(None)
+    }
+}
+
+// The difference of two runs where machines of them stand, if a time passes in both and registers differ.
+fn difference_at(
+    alloc: Global,
+    one: &Machine<'_>,
+    other: &Machine<'_>,
+    first: &[Entry],
+    second: &[Entry],
+    passing: Passing,
+) -> Result<Option<UnseenDifference>, AllocError>
+    requires one { StandsInRun one.now.code first.now passing.first one.now }
+    requires other { StandsInRun one.now.code second.now passing.second other.now }
+    ensures { IfOk result (λ found. IfSome found (DifferWhenPassing one.now.code first.now second.now)) }
+{
+    let registers = other_registers(alloc, one, other)?;
+    if registers.is_empty() {
+        return Ok(None);
+    }
+    if passes_in_both(one, other, first, second, passing) {
+        return Ok(Some(UnseenDifference {
+            time: passing.time,
+            registers,
+        }));
+    }
+    Ok(None)
+}
+
+// The difference of a run from another one, of which a machine stands where a time passes.
+fn difference_from(
+    alloc: Global,
+    one: &Machine<'_>,
+    first: &[Entry],
+    second: &[Entry],
+    passing: Passing,
+) -> Result<Option<UnseenDifference>, AllocError>
+    requires { StandsInRun one.now.code first.now passing.first one.now }
+    ensures { IfOk result (λ found. IfSome found (DifferWhenPassing one.now.code first.now second.now)) }
+{
+    match stand_behind(alloc, one.design(), second, passing.second)? {
+        Some(other) => difference_at(alloc, one, &other, first, second, passing),
+        None => Ok(None),
+    }
+}
+
+// The difference of two runs where a time passes, if registers differ.
+fn difference_of(
+    alloc: Global,
+    design: &Design,
+    first: &[Entry],
+    second: &[Entry],
+    passing: Passing,
+) -> Result<Option<UnseenDifference>, AllocError>
+    ensures { IfOk result (λ found. IfSome found (DifferWhenPassing design.now first.now second.now)) }
+{
+    match stand_behind(alloc, design, first, passing.first)? {
+        Some(one) => difference_from(alloc, &one, first, second, passing),
+        None => Ok(None),
+    }
+}
+
+// The first difference of two runs when a time passes, if there is one.
+fn first_difference(
+    alloc: Global,
+    design: &Design,
+    first: &[Entry],
+    second: &[Entry],
+) -> Result<Option<UnseenDifference>, AllocError>
+    ensures { IfOk result (λ found. IfSome found (DifferWhenPassing design.now first.now second.now)) }
+{
+    match first_parting(alloc, design, first, second)? {
+        Some(passing) => difference_of(alloc, design, first, second, passing),
+        None => Ok(None),
+    }
+}
+
+// Whether a run that was stopped for this has no more to do at its last time, or met `$finish` (17.4.1).
+fn is_stopped_at_rest(why: Why) -> bool
+    ensures { result ≡ is_stopped_at_rest why }
+{
+    match why {
+        Why::Finish => true,
+        Why::Until => true,
+        Why::Time => true,
+        Why::Entries => false,
+        Why::TooLong(_) => false,
+        Why::Memory => false,
+    }
+}
+
+// Whether so does a run with this end.
+fn is_at_rest(end: End) -> bool
+    ensures { result ≡ is_at_rest end }
+{
+    match end {
+        End::Quiet => true,
+        End::Running => false,
+        End::Stopped(why) => is_stopped_at_rest(why),
+    }
+}
+
+// Whether a second run prints what the first one prints and ends like it, at rest.
+fn is_alike_at_rest(original: &RunRecord, exchanged: &RunRecord) -> bool
+    ensures alike { IsTrue result → AreLike original.now exchanged.now }
+    ensures rests { IsTrue result → IsTrue (is_at_rest exchanged.now.end) }
+{
+    is_at_rest(exchanged.end) && is_same(original, exchanged)
+}
+
+// The first difference of a second run from the first one when a time passes. The entries of both are taken off those that are left.
+fn difference_beside(
+    task: RaceSearch<'_>,
+    exchanged: &RunRecord,
+    left: &mut u64,
+) -> Result<Option<UnseenDifference>, AllocError>
+    ensures { IfOk result (λ found. IfSome found (DifferWhenPassing task.entry.design.now task.entry.original.now.journal.items exchanged.now.journal.items)) }
+{
+    let first = task.original.journal.as_slice();
+    let second = exchanged.journal.as_slice();
+    *left = left
+        .saturating_sub(first.len() as u64)
+        .saturating_sub(second.len() as u64);
+    first_difference(task.alloc, task.design, first, second)
+}
+
+/// The first difference of a second run from the first run, when a time passes, where both print the same and end alike, at rest. The entries
+/// of both are taken off those that are left to second runs then.
+pub(crate) fn unseen_difference(
+    task: RaceSearch<'_>,
+    exchanged: &RunRecord,
+    left: &mut u64,
+) -> Result<Option<UnseenDifference>, AllocError>
+    requires { IsRun task.design.now task.limits exchanged.now }
+    ensures { IfOk result (λ found. IfSome found (IsUnseen task.entry.design.now task.entry.limits task.entry.original.now)) }
+{
+    if is_alike_at_rest(task.original, exchanged) {
+        difference_beside(task, exchanged, left)
+    } else {
+        Ok(None)
+    }
+}

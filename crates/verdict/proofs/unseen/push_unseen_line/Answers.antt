@@ -1,0 +1,19 @@
+use Rattle.std.proofs.Common.{◌≡◌, ◌∙◌, ◌++◌, ap, ℕ, List, codes, decimal, refl}
+use Rattle.verdict.specs.UnseenLines.{differ_at_text}
+use Rattle.verdict.proofs.Pieces.{joined, joined_last}
+use Rattle.verdict.proofs.unseen.push_unseen_line.Goals as goal
+
+pub returns : goal.returns
+returns c =
+    let old = c.args.text.now.items in
+    let names = c.args.names.now in
+    let word : List ℕ = differ_at_text c.args.count in
+    let time : List ℕ = decimal c.args.time in
+    let begun : List ℕ = codes "not compared: " in
+    let ended : List ℕ = codes " (--observe registers)\n" in
+    let differ = c.in_ok-extend_from_slice-3.ensures.items ∙ ap (λ (l : List ℕ). c.extend_from_slice-2.new.self.items ++ l) c.differ_at.ensures in
+    let two = joined c.extend_from_slice-2.new.self.items old begun c.extend_from_slice.new.self.items names c.in_ok-extend_from_slice-2.ensures.items c.in_ok-extend_from_slice.ensures.items in
+    let three = joined c.extend_from_slice-3.new.self.items old (begun ++ names) c.extend_from_slice-2.new.self.items word differ two in
+    let four = joined c.push_number.new.text.items old (begun ++ names ++ word) c.extend_from_slice-3.new.self.items time c.in_ok-push_number.ensures three in
+    joined_last c.extend_from_slice-4.result c.extend_from_slice-4.new.self.items old (begun ++ names ++ word ++ time) c.push_number.new.text.items
+    ended ended c.extend_from_slice-4.ensures.items four refl
