@@ -2,7 +2,7 @@
 use Rattle.std.proofs.Common.{◌≡◌, ℕ, zero, suc, ◌<◌, ◌≤◌, Bool, true, false, List, [], ◌∷◌, ◌++◌, ◌⊎◌, inl, inr, ⊎_elim, map, length, drop, refl, sym, ap, ◌∙◌, ◌==◌, arith, get_or}
 use Rattle.std.specs.Prelude.{◌||◌, not, ◌&&◌, slice_index_or}
 use Rattle.std.proofs.lemmas.Bool.{eqb-true}
-use Rattle.model.specs.Syntax.{Expression, Register, Select, Literal, Concat, Unary, Binary, Conditional, Expressions, Nothing, Also, registers_of, all_registers_of}
+use Rattle.model.specs.Syntax.{Expression, Register, Select, Literal, Concat, Unary, Binary, Conditional, Extend, Expressions, Nothing, Also, registers_of, all_registers_of}
 use Rattle.model.specs.Design.{Process, Statement, Empty, Assign, AssignAfter, AssignLater, Delay, Await, If, While, Print, Finish, Statements, End, Then}
 use Rattle.model.specs.Turns.{contains}
 use Rattle.model.specs.TurnCases.{all_but}
@@ -40,6 +40,7 @@ mutual
   expression_bound widths (Literal v) r sound h = cc
   expression_bound widths (Concat es) r sound h = expressions_bound widths es r sound.2 h
   expression_bound widths (Unary op e) r sound h = expression_bound widths e r sound h
+  expression_bound widths (Extend by size e) r sound h = expression_bound widths e r sound.2 h
   expression_bound widths (Binary op e f) r sound h =
       ⊎_elim (λ there. expression_bound widths e r sound.0 there) (λ there. expression_bound widths f r sound.1 there) (in_either (registers_of e) (registers_of f) r h)
   expression_bound widths (Conditional c e f) r sound h =

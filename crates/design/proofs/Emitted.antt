@@ -2,7 +2,8 @@
 use Rattle.std.proofs.Common.{◌≡◌, ℕ, ◌+◌, List, [], ◌∷◌, ◌++◌, length, sym, ap, ◌∙◌, arith, length-append}
 use Rattle.model.specs.declared.tree.Task.{Task}
 use Rattle.model.specs.Syntax.{Expression, Expressions}
-use Rattle.model.specs.Design.{Statement, Empty, Assign, AssignAfter, AssignLater, Delay, Await, If, While, Print, Finish, Statements, End, Then, Trigger, Piece, inside, all_of, size}
+use Rattle.model.specs.Design.{Statement, Empty, Assign, AssignAfter, AssignLater, Delay, Await, If, While, Print, Finish, Statements, End, Then, Trigger, inside, all_of, size}
+use Rattle.model.specs.Syntax.{Piece}
 use Rattle.design.specs.declared.code.Node.{Node}
 use Rattle.design.specs.declared.code.Node.TheVariants as node
 use Rattle.design.specs.Generate.{own_code, assigned_code}

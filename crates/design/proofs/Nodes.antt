@@ -4,7 +4,8 @@ use Rattle.std.specs.Prelude.{slice_get}
 use Rattle.model.specs.declared.tree.Task.{Task}
 use Rattle.model.specs.Syntax.{Expressions, registers_of}
 use Rattle.model.specs.Elaboration.{argument_count}
-use Rattle.model.specs.Design.{Statement, Empty, Assign, AssignAfter, AssignLater, Delay, Await, If, While, Print, Finish, Statements, End, Then, Piece, inside, all_of, size, statement_at, first_place}
+use Rattle.model.specs.Design.{Statement, Empty, Assign, AssignAfter, AssignLater, Delay, Await, If, While, Print, Finish, Statements, End, Then, inside, all_of, size, statement_at, first_place}
+use Rattle.model.specs.Syntax.{Piece}
 use Rattle.model.specs.Expressions.{own_value, assigned_value}
 use Rattle.model.specs.Turns.{Remainder, At, parts}
 use Rattle.design.specs.declared.code.Node.TheVariants as node

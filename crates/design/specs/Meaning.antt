@@ -3,7 +3,8 @@ use Rattle.std.specs.Prelude.{◌≡◌, ◌⊎◌, ℕ, ◌+◌, ◌<◌, true,
 use Rattle.std.specs.List.{All}
 use Rattle.model.specs.Syntax.{Expression, Expressions, Nothing, Also, registers_of}
 use Rattle.model.specs.Design as tree
-use Rattle.model.specs.Design.{Design, Statements, Piece, Byte, Argument, statement_at, process_at, size}
+use Rattle.model.specs.Design.{Design, Statements, statement_at, process_at, size}
+use Rattle.model.specs.Syntax.{Piece, Byte, Argument}
 use Rattle.model.specs.Expressions.{own_value, assigned_value}
 use Rattle.model.specs.Turns.{Remainder, At, parts, whole}
 use Rattle.design.specs.declared.code.Op.{Op}
@@ -11,7 +12,6 @@ use Rattle.design.specs.declared.code.LinePiece.{LinePiece}
 use Rattle.design.specs.declared.code.LinePiece.TheVariants as shown
 use Rattle.design.specs.declared.code.Node.{Node}
 use Rattle.design.specs.declared.code.Node.TheVariants as node
-use Rattle.design.specs.DesignTrees.{conversion_of}
 use Rattle.design.specs.Sound.{IsSound}
 use Rattle.design.specs.ExpressionSteps.{IsOpOf, Computes, span_of}
 use Rattle.design.specs.CodePlaces.{remainder_at, IsPlaceOf, statement_count}
@@ -34,7 +34,7 @@ abbrev pub IsLine : List ℕ → List Op → List LinePiece → List Piece → E
 IsLine widths ops [] [] Nothing = Unit {0}
 IsLine widths ops (shown.Byte b ∷ ss) (Byte c ∷ ps) es = (b ≡ c) × IsLine widths ops ss ps es
 IsLine widths ops (shown.Value conversion span ∷ ss) (Argument c ∷ ps) (Also e es) =
-    (conversion_of conversion ≡ c) × Computes (span_of ops span) (λ values. own_value widths values e) (registers_of e) × IsLine widths ops ss ps es
+    (conversion ≡ c) × Computes (span_of ops span) (λ values. own_value widths values e) (registers_of e) × IsLine widths ops ss ps es
 IsLine widths ops ss ps es = ⊥
 
 -- A node of the process with number p does what the first part of this remainder does, and leads to places of the

@@ -23,6 +23,7 @@ fn steps(expression: &Expression) -> usize {
             .saturating_add(steps(first))
             .saturating_add(steps(second))
             .saturating_add(1),
+        Expression::Extend(_, _, operand) => steps(operand).saturating_add(1),
     }
 }
 

@@ -4,7 +4,7 @@ ghost use Rattle.design.specs.DesignTrees as tree;
 ghost use Rattle.model.specs.Elaboration as model;
 ghost use Rattle.model.specs.Design as designs;
 ghost use Rattle.model.specs.Elaboration.{all_resolved, assignment, block_of, followed_by, number_of, pieces_of, resolved};
-ghost use Rattle.model.specs.SourceTrees.{source_expression_of, source_expressions, source_process_of, source_statement_of, source_statements, source_trigger_of};
+ghost use Rattle.model.specs.SourceTrees.{piece_of, source_expression_of, source_expressions, source_process_of, source_statement_of, source_statements, source_trigger_of};
 ghost use Rattle.elaborate.specs.Small.{IsSmall, AreSmall, IsShortDelay, IsSmallStatement, AreSmallStatements, AreSmallProcesses};
 
 use crate::build::{self, Built};
@@ -12,7 +12,7 @@ use crate::format;
 use crate::names::RegisterNames;
 use design::Trigger;
 use design::tree::{Expression, Process, Statement};
-use model::tree::{EventExpression, SourceExpression, SourceProcess, SourceStatement, Task};
+use model::tree::{EventExpression, Piece, SourceExpression, SourceProcess, SourceStatement, Task};
 use std::alloc::Global;
 
 /// The processes of a design, from those of a module.
@@ -221,6 +221,14 @@ fn statement(
             arguments.as_slice(),
             into,
         ),
+        SourceStatement::PrintPieces(task, pieces, arguments) => print_pieces(
+            alloc,
+            names,
+            *task,
+            pieces.as_slice(),
+            arguments.as_slice(),
+            into,
+        ),
         SourceStatement::Finish => finish(into),
     }
 }
@@ -334,7 +342,26 @@ fn repetition(
     build::push(into, build::while_of(test, body))
 }
 
-// `$display` or `$strobe`, behind others.
+// A print with the pieces of its format, behind others.
+#[inline(never)]
+fn print_pieces(
+    alloc: Global,
+    names: &RegisterNames,
+    task: Task,
+    pieces: &[Piece],
+    arguments: &[SourceExpression],
+    into: &mut Vec<Statement>,
+) -> Built<()>
+    requires { AreSmall (source_expressions (map source_expression_of arguments.now)) }
+    ensures { OnOk result (tree.statements_of into.new.items
+        ≡ followed_by (tree.statements_of into.old.items) (model.alone (designs.Print task (map piece_of pieces.now) (all_resolved names.now (source_expressions (map source_expression_of arguments.now)))))) }
+{
+    let pieces = Vec::from_slice(alloc, pieces)?;
+    let arguments = expressions(alloc, names, arguments, arguments.len())?;
+    build::push(into, build::print_of(task, pieces, arguments))
+}
+
+// A print with its format, behind others.
 #[inline(never)]
 fn print(
     alloc: Global,
@@ -397,6 +424,10 @@ fn expression(alloc: Global, names: &RegisterNames, e: &SourceExpression) -> Bui
             let first = expression(alloc, names, e)?;
             let second = expression(alloc, names, f)?;
             build::conditional_of(alloc, test, first, second)
+        }
+        SourceExpression::Extend(by, size, e) => {
+            let operand = expression(alloc, names, e)?;
+            build::extend_of(alloc, *by, *size, operand)
         }
     }
 }

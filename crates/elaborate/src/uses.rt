@@ -47,6 +47,7 @@ fn statement<'a>(names: &RegisterNames, s: &'a SourceStatement) -> Result<(), Fi
             block(names, otherwise.as_slice())
         }
         SourceStatement::Print(_, _, arguments) => expressions(names, arguments.as_slice()),
+        SourceStatement::PrintPieces(_, _, arguments) => expressions(names, arguments.as_slice()),
     }
 }
 
@@ -86,7 +87,7 @@ fn expression<'a>(names: &RegisterNames, e: &'a SourceExpression) -> Result<(), 
             expression(names, part)?;
             expressions(names, others.as_slice())
         }
-        SourceExpression::Unary(_, e) => expression(names, e),
+        SourceExpression::Unary(_, e) | SourceExpression::Extend(_, _, e) => expression(names, e),
         SourceExpression::Binary(_, e, f) => {
             expression(names, e)?;
             expression(names, f)

@@ -2,7 +2,7 @@
 use Rattle.std.proofs.Common.{◌≡◌, ℕ, zero, suc, ◌+◌, ◌<◌, ◌≤◌, Bool, true, false, if◌then◌else◌, List, [], ◌∷◌, ◌++◌, map, take, length, length-append, Option, Some, None, refl, sym, ap, ◌∙◌, arith, ⊎_elim, subst, get_or}
 use Rattle.std.specs.Prelude.{slice_get, slice_set, slice_index_or}
 use Rattle.std.specs.List.{All}
-use Rattle.std.proofs.lemmas.List.{map-append, length-set}
+use Rattle.std.proofs.lemmas.List.{append-nil, map-append, length-set}
 use Rattle.std.proofs.lemmas.List.Elements.{All-push}
 use Rattle.std.proofs.lemmas.Option.{slice_get-get_or}
 use Rattle.logic4.specs.declared.digit.Truth.{Truth}
@@ -12,7 +12,8 @@ use Rattle.logic4.specs.Operators.{truth}
 use Rattle.model.specs.declared.tree.Task.TheVariants as Task
 use Rattle.model.specs.Syntax.{Expression, Expressions, registers_of}
 use Rattle.model.specs.Design as tree
-use Rattle.model.specs.Design.{Statement, Statements, Piece, Trigger, Process, statement_at, process_at, all_statements, all_of, size}
+use Rattle.model.specs.Design.{Statement, Statements, Trigger, Process, statement_at, process_at, all_statements, all_of, size}
+use Rattle.model.specs.Syntax.{Piece}
 use Rattle.model.specs.Expressions.{Store, own_value, assigned_value}
 use Rattle.model.specs.Turns as turns
 use Rattle.model.specs.Turns.{At, Set, Remainder, Turn, Going, parts, whole, next, after_statement, counted, goes_on, stops, delayed, where_true}
@@ -291,7 +292,22 @@ module _ (code : Compiled) (p now : ℕ) where
     agrees = l.continues.agrees;
     goes = λ store count len agree.
         stepping (going_of code store count s) (remainder_of_state code s.state) (remainder_at (design_of code) to) place (tree.Print Task.Display format arguments) left is
-        ∙ goes_eq (remainder_at (design_of code) to) (remainder_at (design_of code) to) _ _ _ _ _ _ _ _ _ _ _ (count + 1) refl refl (sym l.continues.uses) refl refl (sym (l.lines store (len ∙ sym sound.size) agree));
+        ∙ goes_eq (remainder_at (design_of code) to) (remainder_at (design_of code) to) _ _ _ _ _ _ _ _ _ _ _ (count + 1) refl refl (sym l.continues.uses) refl refl (sym (l.lines (10 ∷ []) store (len ∙ sym sound.size) agree));
+  }
+
+  write_follows : (s m : Status) (to place : ℕ) (format : List Piece) (arguments : Expressions ℕ) → Sound code p s → Lined code.widths s m format arguments → remainder_of_state code s.state ≡ At place ∷ remainder_at (design_of code) to → statement_at (design_of code) place ≡ tree.Print Task.Write format arguments → IsPlaceOf (design_of code) p to → Follows code p now s step.Goes (at (record s { known = m.known; reads = m.reads; lines = m.lines }) to)
+  write_follows s m to place format arguments sound l left is within = record {
+    sound = record {
+      state = state_at s.state to sound.state within;
+      size = l.size ∙ sound.size;
+      knows = l.continues.knows;
+      writes = sound.writes;
+      nbas = sound.nbas;
+    };
+    agrees = l.continues.agrees;
+    goes = λ store count len agree.
+        stepping (going_of code store count s) (remainder_of_state code s.state) (remainder_at (design_of code) to) place (tree.Print Task.Write format arguments) left is
+        ∙ goes_eq (remainder_at (design_of code) to) (remainder_at (design_of code) to) _ _ _ _ _ _ _ _ _ _ _ (count + 1) refl refl (sym l.continues.uses) refl refl (sym (l.lines [] store (len ∙ sym sound.size) agree) ∙ append-nil m.lines);
   }
 
   strobe_follows : (s : Status) (to place : ℕ) (format : List Piece) (arguments : Expressions ℕ) → Sound code p s → remainder_of_state code s.state ≡ At place ∷ remainder_at (design_of code) to → statement_at (design_of code) place ≡ tree.Print Task.Strobe format arguments → place ≡ s.state.place → IsPlaceOf (design_of code) p to → Follows code p now s step.Goes (strobing s to)
@@ -358,6 +374,10 @@ module _ (code : Compiled) (p now : ℕ) where
         let l = lined code.widths code.ops (span_of code.shown span) s m format arguments (ops_within s sound) sound.knows line prints in
         let es' = es ∙ ap (λ z. at (printing z (10 ∷ [])) to) l.same in
         rw (er, es') (display_follows s m to place format arguments sound l (here ∙ left) is within)
+    node_follows (node.Print Task.Write span to) s r s' sound here (place, (format, (arguments, (left, is, line, within)))) (er, (m, (prints, es))) =
+        let l = lined code.widths code.ops (span_of code.shown span) s m format arguments (ops_within s sound) sound.knows line prints in
+        let es' = es ∙ ap (λ z. at z to) l.same in
+        rw (er, es') (write_follows s m to place format arguments sound l (here ∙ left) is within)
     node_follows (node.Print Task.Strobe span to) s r s' sound here (place, (format, (arguments, (left, is, line, within)))) (er, es) =
         rw (er, es) (strobe_follows s to place format arguments sound (here ∙ left) is (place_named (design_of code) p s.state.place place _ sound.state.place left) within)
     node_follows (node.Finish to) s r s' sound here (place, (left, is, within)) (er, es) = rw (er, es) (finish_follows s to place sound (here ∙ left) is within)

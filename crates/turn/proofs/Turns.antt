@@ -242,6 +242,7 @@ statement_long design now g place (tree.Await triggers body) rest e = ap (λ n. 
 statement_long design now g place (tree.If c body otherwise) rest e = tt
 statement_long design now g place (tree.While c body) rest e = tt
 statement_long design now g place (tree.Print Task.Display format arguments) rest e = tt
+statement_long design now g place (tree.Print Task.Write format arguments) rest e = tt
 statement_long design now g place (tree.Print Task.Strobe format arguments) rest e = tt
 statement_long design now g place tree.Finish rest e = ap (λ n. n + 1) e
 

@@ -116,6 +116,7 @@ impl RunningTurn {
             } => self.branch(ops, reader, *condition, *taken, *missed)?,
             Node::Print { task, pieces, next } => match task {
                 Task::Display => self.display(ops, shown, *pieces, *next, reader)?,
+                Task::Write => self.print_text(ops, shown, *pieces, *next, reader)?,
                 Task::Strobe => self.strobe(*next)?,
             },
             Node::Finish { next } => return Ok(self.finish(*next)),
