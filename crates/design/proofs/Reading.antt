@@ -7,7 +7,7 @@ use Rattle.std.proofs.lemmas.List.Elements.{All-append}
 use Rattle.model.specs.Syntax as tree
 use Rattle.model.specs.Syntax.{Expression, Expressions}
 use Rattle.model.specs.Expressions.{sizing_of, left_size, right_size, operand_size, own_size}
-use Rattle.model.specs.Design.{Process, Statement, Empty, Assign, AssignAfter, AssignLater, Delay, Await, If, While, Print, Finish, Statements, End, Then, inside}
+use Rattle.model.specs.Design.{Process, Statement, Empty, Assign, AssignAfter, AssignLater, Now, Delay, Await, If, While, Print, Finish, Statements, End, Then, inside}
 use Rattle.model.specs.Syntax.{Piece, Byte, Argument}
 use Rattle.design.specs.declared.code.Op.{Op}
 use Rattle.design.specs.declared.code.Op.TheVariants.{Unary, Binary, Join, Resize, Extend, Choose}
@@ -95,6 +95,7 @@ mutual
   statement_ops widths next e (Assign r x) h all = both_ops widths e.ops (assigned_code widths r x) all (assigned_ops widths r x h.1)
   statement_ops widths next e (AssignAfter r d x) h all = both_ops widths e.ops (assigned_code widths r x) all (assigned_ops widths r x h.2)
   statement_ops widths next e (AssignLater r d x) h all = both_ops widths e.ops (assigned_code widths r x) all (assigned_ops widths r x h.2)
+  statement_ops widths next e (Now r) h all = all
   statement_ops widths next e (Delay d body) h all = all_ops widths next (delay_node e d body next) body h.1 all
   statement_ops widths next e (Await triggers body) h all = all_ops widths next (await_node e triggers body next) body h.1 all
   statement_ops widths next e (If c body otherwise) h all =

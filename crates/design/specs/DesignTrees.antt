@@ -5,7 +5,7 @@ use Rattle.model.specs.Syntax.{Register, Select, Literal, Concat, Unary, Binary,
 use Rattle.model.specs.SourceTrees.{piece_of}
 use Rattle.model.specs.Syntax as syntax
 use Rattle.model.specs.Design as model
-use Rattle.model.specs.Design.{Empty, Assign, AssignAfter, AssignLater, Delay, Await, If, While, Print, Finish, Statements, End, Then}
+use Rattle.model.specs.Design.{Empty, Assign, AssignAfter, AssignLater, Now, Delay, Await, If, While, Print, Finish, Statements, End, Then}
 use Rattle.design.specs.declared.tree.Expression as expression
 use Rattle.design.specs.declared.tree.Expression.{fold-Expression}
 use Rattle.design.specs.declared.tree.Expression.TheOpen.{Expression-F}
@@ -49,6 +49,7 @@ statement_node Statement-F.Empty = Empty
 statement_node (Statement-F.Assign r e) = Assign r (expression_of e)
 statement_node (Statement-F.AssignAfter r delay e) = AssignAfter r delay (expression_of e)
 statement_node (Statement-F.AssignLater r delay e) = AssignLater r delay (expression_of e)
+statement_node (Statement-F.Now r) = Now r
 statement_node (Statement-F.Delay delay body) = Delay delay (statements body.items)
 statement_node (Statement-F.Await triggers body) = Await triggers.items (statements body.items)
 statement_node (Statement-F.If c body otherwise) = If (expression_of c) (statements body.items) (statements otherwise.items)

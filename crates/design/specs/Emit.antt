@@ -1,5 +1,5 @@
 -- The nodes that are made of statements, in the order of the text.
-use Rattle.std.specs.Prelude.{ℕ, ◌+◌, Bool, true, false, List, [], ◌∷◌, ◌++◌, length}
+use Rattle.std.specs.Prelude.{ℕ, ◌+◌, Bool, true, false, List, [], ◌∷◌, ◌++◌, length, slice_index}
 use Rattle.model.specs.declared.tree.Task.{Task}
 use Rattle.model.specs.Syntax.{Expressions, Nothing, Also}
 use Rattle.model.specs.Design as tree
@@ -74,6 +74,7 @@ abbrev mutual
   with_statement widths next e (tree.Assign r x) = with_valued e (assigned_code widths r x) (λ s. node.Assign r s next)
   with_statement widths next e (tree.AssignAfter r delay x) = with_valued e (assigned_code widths r x) (λ s. node.AssignAfter r delay s next)
   with_statement widths next e (tree.AssignLater r delay x) = with_valued e (assigned_code widths r x) (λ s. node.AssignLater r delay s next)
+  with_statement widths next e (tree.Now r) = with_node e (node.Now r (slice_index widths r) next)
   with_statement widths next e (tree.Delay delay body) =
       with_all widths next (with_node e (node.Delay delay (first_of (length e.nodes + 1) body next))) body
   with_statement widths next e (tree.Await triggers body) =

@@ -1,5 +1,5 @@
 -- What code means: the node at a place does what the first part of the remainder at that place does.
-use Rattle.std.specs.Prelude.{◌≡◌, ◌⊎◌, ℕ, ◌+◌, ◌<◌, true, false, List, [], ◌∷◌, ◌++◌, length, Some, slice_get}
+use Rattle.std.specs.Prelude.{◌≡◌, ◌⊎◌, ℕ, ◌+◌, ◌<◌, true, false, List, [], ◌∷◌, ◌++◌, length, Some, slice_get, slice_index}
 use Rattle.std.specs.List.{All}
 use Rattle.model.specs.Syntax.{Expression, Expressions, Nothing, Also, registers_of}
 use Rattle.model.specs.Design as tree
@@ -68,6 +68,12 @@ IsFine code p (node.AssignLater q delay span next) left =
     × Computes (span_of code.ops span) (λ values. assigned_value code.widths values q e) (registers_of e)
     × (q < length code.widths)
     × IsPlaceOf (design_of code) p next))
+IsFine code p (node.Now q digits next) left =
+    (place : ℕ) × ((left ≡ At place ∷ remainder_at (design_of code) next)
+    × (statement_at (design_of code) place ≡ tree.Now q)
+    × (digits ≡ slice_index code.widths q)
+    × (q < length code.widths)
+    × IsPlaceOf (design_of code) p next)
 IsFine code p (node.Delay delay next) left =
     (place : ℕ) × ((body : Statements) × ((rest : Remainder) × (
     (left ≡ At place ∷ rest)

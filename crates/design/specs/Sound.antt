@@ -3,7 +3,7 @@ use Rattle.std.specs.Prelude.{◌≡◌, ℕ, ◌+◌, ◌<◌, ◌≤◌, List,
 use Rattle.std.specs.List.{All}
 use Rattle.model.specs.Syntax.{Expression, Register, Select, Literal, Concat, Unary, Binary, Conditional, Extend, Expressions, Nothing, Also}
 use Rattle.logic4.specs.Vector.{greatest_width, AreWithin}
-use Rattle.model.specs.Design.{Design, Statement, Empty, Assign, AssignAfter, AssignLater, Delay, Await, If, While, Print, Finish, Statements, End, Then}
+use Rattle.model.specs.Design.{Design, Statement, Empty, Assign, AssignAfter, AssignLater, Now, Delay, Await, If, While, Print, Finish, Statements, End, Then}
 use Rattle.model.specs.Expressions.{total_size}
 use Rattle.model.specs.Elaboration.{argument_count, greatest_delay}
 
@@ -42,6 +42,7 @@ abbrev mutual
   IsSoundStatement widths (Assign r e) = (r < length widths) × IsSoundExpression widths e
   IsSoundStatement widths (AssignAfter r delay e) = (r < length widths) × (delay ≤ greatest_delay) × IsSoundExpression widths e
   IsSoundStatement widths (AssignLater r delay e) = (r < length widths) × (delay ≤ greatest_delay) × IsSoundExpression widths e
+  IsSoundStatement widths (Now r) = r < length widths
   IsSoundStatement widths (Delay delay body) = (delay ≤ greatest_delay) × AreSoundStatements widths body
   IsSoundStatement widths (Await triggers body) = All (λ t. t.1 < length widths) triggers × AreSoundStatements widths body
   IsSoundStatement widths (If c body otherwise) = IsSoundExpression widths c × AreSoundStatements widths body × AreSoundStatements widths otherwise

@@ -122,6 +122,12 @@ pub enum Node {
         value: Span,
         next: usize,
     },
+    /// The time as a register's value (17.7.1).
+    Now {
+        register: RegId,
+        size: Size,
+        next: usize,
+    },
     /// A delay before a statement (9.7.1).
     Delay {
         delay: u32,

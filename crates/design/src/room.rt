@@ -66,7 +66,7 @@ impl Room {
     #[cycle(room)]
     fn statement(&mut self, statement: &Statement) {
         match statement {
-            Statement::Empty | Statement::Finish => (),
+            Statement::Empty | Statement::Now(_) | Statement::Finish => (),
             Statement::Assign(_, value) => self.value(value),
             Statement::AssignAfter(_, _, value) => self.value(value),
             Statement::AssignLater(_, _, value) => self.value(value),

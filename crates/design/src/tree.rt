@@ -21,13 +21,14 @@ pub enum Expression {
     Extend(Extension, Size, Box<Expression>),
 }
 
-/// A statement (9.2 to 9.9, 17.1, 17.4). Delays are counts of time units.
+/// A statement (9.2 to 9.9, 17.1, 17.4, 17.7). Delays are counts of time units. `Now` gives a register the time.
 #[derive(Drop)]
 pub enum Statement {
     Empty,
     Assign(RegId, Expression),
     AssignAfter(RegId, u32, Expression),
     AssignLater(RegId, u32, Expression),
+    Now(RegId),
     Delay(u32, Vec<Statement>),
     Await(Vec<Trigger>, Vec<Statement>),
     If(Expression, Vec<Statement>, Vec<Statement>),

@@ -87,6 +87,7 @@ mutual
   used_in_settles ds (source.Block body) = all_used_in_settle ds body
   used_in_settles ds (source.Assign name delay e) = names_behind ds (undeclared_fault ds name) (used ds e) (name ∷ []) (registers_of e) (name_settles ds name) (used_settles ds e)
   used_in_settles ds (source.AssignLater name delay e) = names_behind ds (undeclared_fault ds name) (used ds e) (name ∷ []) (registers_of e) (name_settles ds name) (used_settles ds e)
+  used_in_settles ds (source.Now name) = name_settles ds name
   used_in_settles ds (source.Delay delay s) = used_in_settles ds s
   used_in_settles ds (source.Await triggers s) =
       names_behind ds (unknown_among ds (map (λ t. t.1) triggers)) (used_in ds s) (map (λ t. t.1) triggers) (names_in s) (names_settle ds (map (λ t. t.1) triggers)) (used_in_settles ds s)
@@ -138,6 +139,7 @@ mutual
       behind (found_delay delay) (found ds e) (delay_faults delay) (expression_faults ds e) (delay_settles delay) (found_settles ds e)
   found_in_settles ds (source.AssignLater name delay e) =
       behind (found_delay delay) (found ds e) (delay_faults delay) (expression_faults ds e) (delay_settles delay) (found_settles ds e)
+  found_in_settles ds (source.Now name) = refl
   found_in_settles ds (source.Delay delay s) =
       behind (found_delay (Some delay)) (found_in ds s) (delay_faults (Some delay)) (statement_faults ds s) (delay_settles (Some delay)) (found_in_settles ds s)
   found_in_settles ds (source.Await triggers s) = found_in_settles ds s

@@ -127,6 +127,7 @@ mutual
   sound_in ds (source.AssignLater name delay e) w u f =
       let a = split (undeclared_fault ds name) (used ds e) u in let b = split (found_delay delay) (found ds e) f in
       ((known_below ds name a.0, short_or_none delay b.0, sound ds e w a.1 b.1), tt)
+  sound_in ds (source.Now name) w u f = (known_below ds name u, tt)
   sound_in ds (source.Delay delay s) w u f =
       let b = split (found_delay (Some delay)) (found_in ds s) f in ((short delay b.0, sound_in ds s w u b.1), tt)
   sound_in ds (source.Await triggers s) w u f =
@@ -280,6 +281,7 @@ module _ (ds : List Declared) (ranged : (name : Text) → is_range (range_of ds 
     small_in (source.Block body) f = all_small_in body f
     small_in (source.Assign name delay e) f = let b = split (found_delay delay) (found ds e) f in (short_delay delay b.0, small e b.1)
     small_in (source.AssignLater name delay e) f = let b = split (found_delay delay) (found ds e) f in (short_delay delay b.0, small e b.1)
+    small_in (source.Now name) f = tt
     small_in (source.Delay delay s) f = let b = split (found_delay (Some delay)) (found_in ds s) f in (short delay b.0, small_in s b.1)
     small_in (source.Await triggers s) f = small_in s f
     small_in (source.If c body) f = let b = split (found ds c) (all_found_in ds body) f in (small c b.0, all_small_in body b.1)

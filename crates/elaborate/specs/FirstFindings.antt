@@ -97,6 +97,7 @@ abbrev mutual
   used_in ds (source.Block body) = all_used_in ds body
   used_in ds (source.Assign name delay e) = or_fault (undeclared_fault ds name) (used ds e)
   used_in ds (source.AssignLater name delay e) = or_fault (undeclared_fault ds name) (used ds e)
+  used_in ds (source.Now name) = undeclared_fault ds name
   used_in ds (source.Delay delay s) = used_in ds s
   used_in ds (source.Await triggers s) = or_fault (unknown_among ds (map (λ t. t.1) triggers)) (used_in ds s)
   used_in ds (source.If c body) = or_fault (used ds c) (all_used_in ds body)
@@ -171,6 +172,7 @@ abbrev mutual
   found_in ds (source.Block body) = all_found_in ds body
   found_in ds (source.Assign name delay e) = or_fault (found_delay delay) (found ds e)
   found_in ds (source.AssignLater name delay e) = or_fault (found_delay delay) (found ds e)
+  found_in ds (source.Now name) = None
   found_in ds (source.Delay delay s) = or_fault (found_delay (Some delay)) (found_in ds s)
   found_in ds (source.Await triggers s) = found_in ds s
   found_in ds (source.If c body) = or_fault (found ds c) (all_found_in ds body)

@@ -33,6 +33,7 @@ abbrev mutual
   IsFormedStatement (source.Block body) = AreFormedStatements body
   IsFormedStatement (source.Assign name delay e) = IsFormed e
   IsFormedStatement (source.AssignLater name delay e) = IsFormed e
+  IsFormedStatement (source.Now name) = Unit {0}
   IsFormedStatement (source.Delay delay s) = IsFormedStatement s
   IsFormedStatement (source.Await triggers s) = IsFormedStatement s
   IsFormedStatement (source.If c body) = IsFormed c × AreFormedStatements body

@@ -33,6 +33,7 @@ abbrev mutual
   IsSmallStatement (source.Block body) = AreSmallStatements body
   IsSmallStatement (source.Assign name delay e) = IsShortDelay delay × IsSmall e
   IsSmallStatement (source.AssignLater name delay e) = IsShortDelay delay × IsSmall e
+  IsSmallStatement (source.Now name) = Unit {0}
   IsSmallStatement (source.Delay delay s) = (delay ≤ greatest_delay) × IsSmallStatement s
   IsSmallStatement (source.Await triggers s) = IsSmallStatement s
   IsSmallStatement (source.If c body) = IsSmall c × AreSmallStatements body

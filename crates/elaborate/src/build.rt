@@ -94,6 +94,12 @@ pub fn assign_later_of(register: RegId, wait: u32, value: Expression) -> Stateme
     Statement::AssignLater(register, wait, value)
 }
 
+pub fn now_of(register: RegId) -> Statement
+    ensures { statement_of result ≡ model.Now register }
+{
+    Statement::Now(register)
+}
+
 pub fn delay_of(wait: u32, body: Vec<Statement>) -> Statement
     ensures { statement_of result ≡ model.Delay wait (statements_of body.items) }
 {

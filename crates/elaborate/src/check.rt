@@ -49,7 +49,7 @@ fn statement<'a>(names: &RegisterNames, s: &'a SourceStatement) -> Result<(), Fi
     ensures formed { OnOk result (IsFormedStatement (source_statement_of s.now)) }
 {
     match s {
-        SourceStatement::Empty | SourceStatement::Finish => Ok(()),
+        SourceStatement::Empty | SourceStatement::Now(_) | SourceStatement::Finish => Ok(()),
         SourceStatement::Block(body) => block(names, body.as_slice()),
         SourceStatement::Assign(_, wait, e) | SourceStatement::AssignLater(_, wait, e) => {
             delay(*wait)?;

@@ -191,6 +191,7 @@ fn statement(
             let wait = build::wait_of(*wait);
             assign_later(alloc, names, name.as_str(), wait, e, into)
         }
+        SourceStatement::Now(name) => time(names, name.as_str(), into),
         SourceStatement::Delay(wait, s) => {
             let body = alone(alloc, names, s)?;
             delay(into, *wait as u32, body)
@@ -287,6 +288,15 @@ fn assign_later(
         into,
         build::assign_later_of(names.number(name), wait, value),
     )
+}
+
+// The time as a register's value, behind others.
+#[inline(never)]
+fn time(names: &RegisterNames, name: &str, into: &mut Vec<Statement>) -> Built<()>
+    ensures { OnOk result (tree.statements_of into.new.items
+        ≡ followed_by (tree.statements_of into.old.items) (model.alone (designs.Now (number_of names.now name.now)))) }
+{
+    build::push(into, build::now_of(names.number(name)))
 }
 
 // A delay before statements, behind others.

@@ -32,6 +32,7 @@ fn statement<'a>(names: &RegisterNames, s: &'a SourceStatement) -> Result<(), Fi
             names.known(name.as_str())?;
             expression(names, e)
         }
+        SourceStatement::Now(name) => names.known(name.as_str()),
         SourceStatement::Delay(_, s) => statement(names, s),
         SourceStatement::Await(triggers, s) => {
             events(names, triggers.as_slice())?;

@@ -17,7 +17,7 @@ use Rattle.logic4.specs.Signed.{signed_number}
 use Rattle.model.specs.declared.tree.Task.TheVariants.{Display, Strobe, Write}
 use Rattle.model.specs.declared.entry.Entry.{Entry}
 use Rattle.model.specs.declared.entry.Entry.TheVariants.{Update, ActivateInactive, ActivateNba, ActivateMonitor, Advance}
-use Rattle.model.specs.Design.{Design, Statement, Empty, Assign, AssignAfter, AssignLater, Delay, Await, If, While, Print, Finish, statement_at, process_at}
+use Rattle.model.specs.Design.{Design, Statement, Empty, Assign, AssignAfter, AssignLater, Now, Delay, Await, If, While, Print, Finish, statement_at, process_at}
 use Rattle.model.specs.Syntax.{Piece, Byte, Argument}
 use Rattle.model.specs.Expressions.{Store}
 use Rattle.model.specs.Turns.{Remainder, At, Set, Ended, Turn, Going, Next, Goes, Over, begun, counted, goes_on, stops, whole, line_text, written_text, format_text, own_values, after_statement, next, and_then, turn_within}
@@ -226,6 +226,7 @@ statement_ascii design now g place Empty rest format h = h
 statement_ascii design now g place (Assign r e) rest format h = h
 statement_ascii design now g place (AssignAfter r delay e) rest format h = h
 statement_ascii design now g place (AssignLater r delay e) rest format h = h
+statement_ascii design now g place (Now r) rest format h = h
 statement_ascii design now g place (Delay delay body) rest format h = h
 statement_ascii design now g place (Await triggers body) rest format h = h
 statement_ascii design now g place (If c body otherwise) rest format h = h
@@ -270,6 +271,7 @@ strobe_ascii design store Empty format = tt
 strobe_ascii design store (Assign r e) format = tt
 strobe_ascii design store (AssignAfter r delay e) format = tt
 strobe_ascii design store (AssignLater r delay e) format = tt
+strobe_ascii design store (Now r) format = tt
 strobe_ascii design store (Delay delay body) format = tt
 strobe_ascii design store (Await triggers body) format = tt
 strobe_ascii design store (If c body otherwise) format = tt

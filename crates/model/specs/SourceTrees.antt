@@ -14,7 +14,7 @@ use Rattle.model.specs.declared.tree.SourceStatement.TheOpen.{SourceStatement-F}
 use Rattle.model.specs.declared.tree.Change.{Change}
 use Rattle.model.specs.declared.tree.Piece as piece
 use Rattle.model.specs.declared.tree.Piece.TheVariants as pieces
-use Rattle.model.specs.Syntax.{Text, Expression, Register, Select, Literal, Concat, Unary, Binary, Conditional, Extend, Expressions, Nothing, Also, Piece, Byte, Argument, SourceStatement, Empty, Block, Assign, AssignLater, Delay, Await, If, IfElse, While, Print, PrintPieces, Finish, SourceStatements, End, Then, Declaration, SourceProcess, Module}
+use Rattle.model.specs.Syntax.{Text, Expression, Register, Select, Literal, Concat, Unary, Binary, Conditional, Extend, Expressions, Nothing, Also, Piece, Byte, Argument, SourceStatement, Empty, Block, Assign, AssignLater, Now, Delay, Await, If, IfElse, While, Print, PrintPieces, Finish, SourceStatements, End, Then, Declaration, SourceProcess, Module}
 
 -- the expressions of a list, in its order
 abbrev pub source_expressions : List (Expression Text) → Expressions Text
@@ -56,6 +56,7 @@ source_statement_node SourceStatement-F.Empty = Empty
 source_statement_node (SourceStatement-F.Block body) = Block (source_statements body.items)
 source_statement_node (SourceStatement-F.Assign name delay e) = Assign (string_bytes name) delay (source_expression_of e)
 source_statement_node (SourceStatement-F.AssignLater name delay e) = AssignLater (string_bytes name) delay (source_expression_of e)
+source_statement_node (SourceStatement-F.Now name) = Now (string_bytes name)
 source_statement_node (SourceStatement-F.Delay delay s) = Delay delay (box_value s)
 source_statement_node (SourceStatement-F.Await events s) = Await (map source_trigger_of events.items) (box_value s)
 source_statement_node (SourceStatement-F.If c body) = If (source_expression_of c) (source_statements body.items)

@@ -7,10 +7,10 @@ use Rattle.logic4.specs.Vector.{Vector}
 use Rattle.logic4.specs.Operators.{truth}
 use Rattle.model.specs.declared.tree.Task.TheVariants.{Display, Strobe, Write}
 use Rattle.model.specs.Syntax.{Expression, Expressions, registers_of, all_registers_of}
-use Rattle.model.specs.Design.{Design, Empty, Assign, AssignAfter, AssignLater, Delay, Await, If, While, Print, Finish, Statements, Trigger, size, statement_at, process_at}
+use Rattle.model.specs.Design.{Design, Empty, Assign, AssignAfter, AssignLater, Now, Delay, Await, If, While, Print, Finish, Statements, Trigger, size, statement_at, process_at}
 use Rattle.model.specs.Syntax.{Piece}
 use Rattle.model.specs.Expressions.{Store, own_value, assigned_value}
-use Rattle.model.specs.Turns.{At, Set, Remainder, Wait, Ended, OnChange, NonblockingAssignment, Turn, parts, whole, own_values, line_text, written_text, delayed, IsTurn, IsShort, short_turn}
+use Rattle.model.specs.Turns.{At, Set, Remainder, Wait, Ended, OnChange, NonblockingAssignment, Turn, parts, whole, own_values, line_text, written_text, time_value, delayed, IsTurn, IsShort, short_turn}
 
 -- the registers without one of them
 abbrev pub all_but : ℕ → List ℕ → List ℕ
@@ -59,6 +59,11 @@ pub data HasTurn (design : Design) (p now : ℕ) : Remainder → Store → Turn 
       → statement_at design place ≡ Assign r e
       → HasTurn design p now rest (slice_set store r (assigned_value design.widths store r e)) turn
       → HasTurn design p now (At place ∷ rest) store (with_step (registers_of e) (with_write r (assigned_value design.widths store r e) turn))
+  -- `r = $time;` writes the time of the turn (17.7.1).
+  timed : (place r : ℕ) (rest : Remainder) (store : Store) (turn : Turn)
+      → statement_at design place ≡ Now r
+      → HasTurn design p now rest (slice_set store r (time_value design.widths r now)) turn
+      → HasTurn design p now (At place ∷ rest) store (with_step [] (with_write r (time_value design.widths r now) turn))
   -- What is left over from `r = #d e;` writes the value that was computed before its wait (9.7.7).
   left_over : (r : ℕ) (v : Vector) (rest : Remainder) (store : Store) (turn : Turn)
       → HasTurn design p now rest (slice_set store r v) turn

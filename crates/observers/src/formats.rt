@@ -60,6 +60,7 @@ fn has_ascii_formats(statement: &Statement)
         Statement::Assign(_, _) => {}
         Statement::AssignAfter(_, _, _) => {}
         Statement::AssignLater(_, _, _) => {}
+        Statement::Now(_) => {}
         Statement::Finish => {}
     }
 }

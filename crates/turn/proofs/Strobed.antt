@@ -146,6 +146,7 @@ module _ (code : Compiled) (places : List ℕ) (place : ℕ) where
     node_strobed (node.Assign q span to) s s' is strobed (n, (x, (left, st, c, fits, within))) e = strobed_still s s' strobed (still_there n _ (tree.Assign q x) left st (λ store. refl) refl) e
     node_strobed (node.AssignAfter q delay span to) s s' is strobed (n, (x, (left, st, c, fits, within))) e = strobed_still s s' strobed (still_there n _ (tree.AssignAfter q delay x) left st (λ store. refl) refl) e
     node_strobed (node.AssignLater q delay span to) s s' is strobed (n, (x, (left, st, c, fits, within))) e = strobed_still s s' strobed (still_there n _ (tree.AssignLater q delay x) left st (λ store. refl) refl) e
+    node_strobed (node.Now q digits to) s s' is strobed (n, (left, st, same, fits, within)) e = strobed_still s s' strobed (still_there n _ (tree.Now q) left st (λ store. refl) refl) e
     node_strobed (node.Delay delay to) s s' is strobed (n, (body, (rest, (left, st, there, within)))) e = strobed_still s s' strobed (still_there n rest (tree.Delay delay body) left st (λ store. refl) refl) e
     node_strobed (node.Await control to) s s' is strobed (n, (body, (rest, (triggers, (left, found, st, there, within))))) e = strobed_still s s' strobed (still_there n rest (tree.Await triggers body) left st (λ store. refl) refl) e
     node_strobed (node.Branch span taken missed) s s' is strobed (n, (c, (rest, (left, computes, test, w1, w2)))) e =

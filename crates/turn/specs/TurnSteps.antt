@@ -1,6 +1,6 @@
 -- The steps of a turn, as the machine makes them.
 use Rattle.std.specs.Prelude.{◌≡◌, ℕ, ◌+◌, true, false, List, [], ◌∷◌, Option, Some, None, slice_get}
-use Rattle.logic4.specs.Vector.{Vector}
+use Rattle.logic4.specs.Vector.{Vector, vector}
 use Rattle.logic4.specs.Operators.{truth}
 use Rattle.model.specs.declared.tree.Task.TheVariants.{Display, Strobe, Write}
 use Rattle.design.specs.declared.code.Op.{Op}
@@ -48,6 +48,7 @@ TakesNode ops shown now (node.Skip next) s r s' = (r ≡ Goes) × (s' ≡ at s n
 TakesNode ops shown now (node.Assign q span next) s r s' = (r ≡ Goes) × Assigns ops span q next s s'
 TakesNode ops shown now (node.AssignAfter q delay span next) s r s' = (r ≡ Ends (wait_for now delay) false) × AssignsAfter ops span q next s s'
 TakesNode ops shown now (node.AssignLater q delay span next) s r s' = (r ≡ Goes) × AssignsLater ops span q (now + delay) next s s'
+TakesNode ops shown now (node.Now q digits next) s r s' = (r ≡ Goes) × (s' ≡ writing s q (vector digits now) next)
 TakesNode ops shown now (node.Delay delay next) s r s' = (r ≡ Ends (wait_for now delay) false) × (s' ≡ at s next)
 TakesNode ops shown now (node.Await control next) s r s' = (r ≡ Ends (Event control) false) × (s' ≡ at s next)
 TakesNode ops shown now (node.Branch condition taken missed) s r s' = (r ≡ Goes) × Branches ops condition taken missed s s'
