@@ -9,9 +9,8 @@ use Rattle.model.specs.Texts.{IsLawfulText, IsWithinLimits}
 use Rattle.design.specs.Compiled.{Compiled, design_of}
 use Rattle.explore.specs.declared.Shown.{Shown}
 use Rattle.explore.specs.Search.{IsShown}
-use Rattle.looseruns.specs.ObservedJournals.{Observer, SeenEnd, IsObservedText}
 use Rattle.looseruns.proofs.LooseCovering.{any_of_map}
-use Rattle.loosejournals.specs.FoundJournals.{IsJournalOf, IsObservedJournalOf}
+use Rattle.loosejournals.specs.FoundJournals.{IsJournalOf}
 use Rattle.lawful.specs.Journals.{HasLawfulJournal, IsTextAmong, texts_and_ends}
 
 pub are_lawful : (code : Compiled) (limits : Limits) (shown : List (Shown Entry End)) → All (HasLawfulJournal (IsJournalOf code limits)) shown → All (λ (s : Shown Entry End). IsLawfulText (design_of code) limits s.moves.items s.text.items s.end) shown
@@ -21,14 +20,6 @@ are_lawful code limits shown journals =
 pub are_within : (code : Compiled) (limits : Limits) (shown : List (Shown Entry End)) → All (HasLawfulJournal (IsJournalOf code limits)) shown → All (λ (s : Shown Entry End). IsWithinLimits limits s.moves.items) shown
 are_within code limits shown journals =
     All-weaker (HasLawfulJournal (IsJournalOf code limits)) (λ (s : Shown Entry End). IsWithinLimits limits s.moves.items) (λ s journal. journal.few) shown journals
-
-pub are_observed : (code : Compiled) (limits : Limits) (observe : Observer) (shown : List (Shown Entry SeenEnd)) → All (HasLawfulJournal (IsObservedJournalOf code limits observe)) shown → All (λ (s : Shown Entry SeenEnd). IsObservedText (design_of code) limits observe s.moves.items s.text.items s.end) shown
-are_observed code limits observe shown journals =
-    All-weaker (HasLawfulJournal (IsObservedJournalOf code limits observe)) (λ (s : Shown Entry SeenEnd). IsObservedText (design_of code) limits observe s.moves.items s.text.items s.end) (λ s journal. journal.lawful) shown journals
-
-pub are_observed_within : (code : Compiled) (limits : Limits) (observe : Observer) (shown : List (Shown Entry SeenEnd)) → All (HasLawfulJournal (IsObservedJournalOf code limits observe)) shown → All (λ (s : Shown Entry SeenEnd). IsWithinLimits limits s.moves.items) shown
-are_observed_within code limits observe shown journals =
-    All-weaker (HasLawfulJournal (IsObservedJournalOf code limits observe)) (λ (s : Shown Entry SeenEnd). IsWithinLimits limits s.moves.items) (λ s journal. journal.few) shown journals
 
 -- what is among the texts and the ends that are shown is shown
 pub shown_among : {Move End : Type 0} (shown : List (Shown Move End)) (text : List ℕ) (end : End) → IsTextAmong (texts_and_ends shown) text end → IsShown shown text end

@@ -12,3 +12,6 @@ pub mod FoundOrders
 pub mod EndlessRuns
 pub mod ObservedWays
 pub mod ObservedNodes
+pub mod ArrangedWays
+pub mod SeenAgain
+pub mod ArrangedTexts

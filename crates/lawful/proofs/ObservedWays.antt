@@ -44,13 +44,13 @@ each_push R (w ∷ xs) (z ∷ ys) x y (first, rest) one = (first, each_push R xs
 pub one_more_each : {X Y : Type 0} (R : X → Y → Type 0) (xs : List X) (ys more : List Y) (x : X) (y : Y) → more ≡ ys ++ y ∷ [] → AreEach R xs ys → R x y → AreEach R (xs ++ x ∷ []) more
 one_more_each R xs ys more x y longer each one = subst (AreEach R (xs ++ x ∷ [])) (sym longer) (each_push R xs ys x y each one)
 
-each_all : {X Y : Type 0} (R : X → Y → Type 0) (P : X → Type 0) (Q : Y → Type 0) (xs : List X) (ys : List Y) → ((x : X) (y : Y) → R x y → P x → Q y) → AreEach R xs ys → All P xs → All Q ys
+pub each_all : {X Y : Type 0} (R : X → Y → Type 0) (P : X → Type 0) (Q : Y → Type 0) (xs : List X) (ys : List Y) → ((x : X) (y : Y) → R x y → P x → Q y) → AreEach R xs ys → All P xs → All Q ys
 each_all R P Q [] [] step each all = All-nil Q
 each_all R P Q [] (y ∷ ys) step each all = absurd each
 each_all R P Q (x ∷ xs) [] step each all = absurd each
 each_all R P Q (x ∷ xs) (y ∷ ys) step (one, rest) all = All-cons Q y ys (step x y one (All-head P x xs all)) (each_all R P Q xs ys step rest (All-tail P x xs all))
 
-each_any : {X Y : Type 0} (R : X → Y → Type 0) (P : X → Type 0) (Q : Y → Type 0) (xs : List X) (ys : List Y) → ((x : X) (y : Y) → R x y → P x → Q y) → AreEach R xs ys → Any P xs → Any Q ys
+pub each_any : {X Y : Type 0} (R : X → Y → Type 0) (P : X → Type 0) (Q : Y → Type 0) (xs : List X) (ys : List Y) → ((x : X) (y : Y) → R x y → P x → Q y) → AreEach R xs ys → Any P xs → Any Q ys
 each_any R P Q [] ys step each (k, x, within, at, p) = absurd (omega (arith, within))
 each_any R P Q (x ∷ xs) [] step each any = absurd each
 each_any R P Q (x ∷ xs) (y ∷ ys) step (one, rest) (zero, z, within, at, p) = (0, y, omega arith, refl, step x y one (subst P (sym at) p))

@@ -6,5 +6,6 @@ pub mod Journals
 pub mod LawfulOrders
 pub mod ObservedNodes
 pub mod ObservedWays
+pub mod ArrangedNodes
 pub mod Told
 pub mod Serving

@@ -88,6 +88,7 @@ pub(crate) fn parts_within(
 
 // Goes a way with this machine.
 fn go_way<'d>(
+    alloc: Global,
     classes: &[u32],
     log: &mut TurnLog,
     machine: Box<Machine<'d>>,
@@ -99,7 +100,7 @@ fn go_way<'d>(
 {
     let mut machine = machine;
     take_all(log, &mut machine, classes, &way)?;
-    Ok(next_of(machine, way))
+    Ok(next_of(alloc, machine, way))
 }
 
 // Goes each of these ways with copies of a machine.
@@ -117,7 +118,7 @@ fn go_each<'d>(
     let mut successors = Vec::new(alloc);
     for way in ways {
         let copy = copy_of(alloc, machine)?;
-        let successor = go_way(classes, log, copy, way)?;
+        let successor = go_way(alloc, classes, log, copy, way)?;
         successors.push(successor)?;
     }
     Ok(successors)
@@ -139,7 +140,7 @@ fn go_all<'d>(
     match others.pop() {
         Some(last) => {
             let mut successors = go_each(alloc, classes, log, &machine, others)?;
-            let successor = go_way(classes, log, machine, last)?;
+            let successor = go_way(alloc, classes, log, machine, last)?;
             successors.push(successor)?;
             Ok(successors)
         }

@@ -123,7 +123,7 @@ fn way_by<'d>(
     let taken = take_loosely(&mut machine, scope.classes, transition);
     machine.exchange_log(log);
     match taken {
-        Ok(()) => Ok(Way::On(next_of(machine, moves))),
+        Ok(()) => Ok(Way::On(next_of(scope.alloc, machine, moves))),
         Err(fault) => {
             let ended = long_of(scope.alloc, transition, fault)?;
             Ok(Way::Long(ended))
@@ -260,7 +260,7 @@ fn arrive<'d>(
     ensures one { IfOk result (λ x. IsArrived machine.entry.value moves.items x.successors.items) }
     ensures none { IfOk result (λ x. x.ended.items ≡ []) }
 {
-    let next = next_of(machine, moves);
+    let next = next_of(alloc, machine, moves);
     let mut successors = Vec::new(alloc);
     successors.push(next)?;
     Ok(Expanded {

@@ -5,8 +5,9 @@ ghost use Rattle.model.specs.Runs.{last_time};
 ghost use Rattle.model.specs.Texts.{AreAllTexts, IsEndlessJournal, IsLawfulText, IsWithinLimits};
 ghost use Rattle.design.specs.Compiled.{design_of};
 ghost use Rattle.explore.specs.declared.stopped.Stopped.TheVariants as stop;
-ghost use Rattle.looseruns.specs.ObservedJournals.{AreAllObservedTexts, IsObservedText};
+ghost use Rattle.looseruns.specs.ObservedJournals.{AreAllObservedTexts};
 ghost use Rattle.observers.specs.Observers.{observer_of};
+ghost use Rattle.lawful.specs.ArrangedNodes.{IsArrangedText, IsArrangementOf, registers_seen};
 ghost use Rattle.lawful.specs.LawfulOrders.{AreLawfulOrders, MaySearch};
 
 use crate::journals::with_all_journals;
@@ -137,13 +138,15 @@ pub fn lawful_orders<P: Progress>(
     told_orders(&LinesAlone, alloc, design, limits, bounds, progress)
 }
 
-/// Searches all lawful orders of a design within these limits (11.4) for all that is observed of them: the lines in order, and what an observer sees
-/// whenever time passes, and of the last state. Each observed text that is shown is that of the lawful journal beside it, and so is its observed
-/// end; no two have one text and one end; and where the search wasn't stopped, every lawful journal in time that ends, but by the most entries or
-/// for want of memory, has an observed text and an observed end that are shown. All else is as `lawful_orders` tells it.
+/// Searches all lawful orders of a design within these limits (11.4) for all that is observed of them: the lines of each time, in one order, and
+/// what an observer sees whenever time passes, and of the last state. Each text that is shown is the observed one of the lawful journal beside
+/// it, but for that order, and so is its observed end, before which the lines of the last time stand; no two have one text and one end; and where the
+/// search wasn't stopped, every lawful journal in time that ends, but by the most entries or for want of memory, has its observed text and end
+/// shown so. All else is as `lawful_orders` tells it.
 ///
 /// Loose runs go on by themselves no further than to where time passes, where what the observer sees is taken. So there is a state for each
-/// time, at least, and runs of which something else was seen never meet again.
+/// time, at least, and runs of which something else was seen never meet again. Runs that printed the same at one time, in whatever order, meet
+/// where their states are alike.
 pub fn observed_orders<P: Progress>(
     alloc: Global,
     design: &Design,
@@ -155,10 +158,10 @@ pub fn observed_orders<P: Progress>(
     requires room { 0 < bounds.nodes }
     requires some_entry { 0 < limits.max_entries }
     requires until { IfSome limits.until (λ until. until ≤ last_time) }
-    ensures sound { All (λ s. IsObservedText (design_of design.now) limits (observer_of observing.now) s.moves.items s.text.items s.end) result.shown.items }
+    ensures sound { All (λ s. IsArrangedText (design_of design.now) limits (registers_seen observing.now) (observer_of observing.now) s.moves.items s.text.items s.end) result.shown.items }
     ensures distinct { AllPairs (λ s t. s.text.items ≡ t.text.items → s.end ≡ t.end → ⊥) result.shown.items }
     ensures within { All (λ s. IsWithinLimits limits s.moves.items) result.shown.items }
-    ensures all { result.stopped ≡ None → AreAllObservedTexts (design_of design.now) limits (observer_of observing.now) (λ text end. Any (λ s. (s.text.items ≡ text) × (s.end ≡ end)) result.shown.items) }
+    ensures all { result.stopped ≡ None → AreAllObservedTexts (design_of design.now) limits (observer_of observing.now) (λ text end. Any (λ s. IsArrangementOf (registers_seen observing.now) text end s.text.items s.end) result.shown.items) }
     ensures few { result.nodes ≤ bounds.nodes }
     ensures few_shown { length result.shown.items ≤ bounds.shown }
     ensures nodes { result.stopped ≡ Some stop.Nodes → result.nodes ≡ bounds.nodes }

@@ -18,6 +18,8 @@
 #![tactic(auto)]
 
 mod again;
+mod arranged_journals;
+mod arranged_ways;
 mod by_parts;
 mod endless;
 mod expand;
@@ -25,8 +27,10 @@ mod journals;
 mod lawful;
 mod node;
 mod observed_ways;
+mod tail_key;
 mod search;
 mod search_room;
+mod seen_again;
 mod telling;
 
 pub use lawful::{lawful_orders, observed_orders};

@@ -6,16 +6,22 @@ ghost use Rattle.lawful.specs.LooseNodes.{IsReadyNode};
 use explore::Successor;
 use loose::transition::LooseTransition;
 use regions::Machine;
+use std::alloc::Global;
+use wavetexts::TextTail;
 
 /// Where a loose run so far has come to: the machine that took its transitions, with none of their lines left in it. It is on the heap,
 /// so that a node is moved and dropped as a pointer.
+///
+/// Where what is printed at one time is compared in any order, it has what was printed since time passed last, too.
 #[derive(Drop)]
 pub struct LooseNode<'d> {
     pub machine: Box<Machine<'d>>,
+    pub tail: TextTail,
 }
 
 /// The node of a machine that took these transitions, with the lines that they printed.
 pub(crate) fn next_of<'d>(
+    alloc: Global,
     machine: Box<Machine<'d>>,
     moves: Vec<LooseTransition>,
 ) -> Successor<LooseNode<'d>, LooseTransition>
@@ -28,7 +34,10 @@ pub(crate) fn next_of<'d>(
     let printed = machine.take_lines().into_bytes();
     machine.stands();
     Successor {
-        node: LooseNode { machine },
+        node: LooseNode {
+            machine,
+            tail: TextTail::new(alloc),
+        },
         printed,
         moves,
     }

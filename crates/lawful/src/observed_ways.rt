@@ -31,8 +31,8 @@ fn is_advance(entry: Entry) -> bool
     }
 }
 
-// Whether a transition lets time pass. Else nothing is seen where it is taken.
-fn passes_time(transition: LooseTransition) -> bool
+/// Whether a transition lets time pass. Else nothing is seen where it is taken.
+pub(crate) fn passes_time(transition: LooseTransition) -> bool
     ensures stays { result ≡ false → StaysInTime transition }
     ensures seen { result ≡ true → (observe : Observer) (s : State) → seen_at_move observe s transition ≡ observe s }
 {

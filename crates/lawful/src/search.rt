@@ -7,7 +7,7 @@ ghost use Rattle.explore.specs.Search.{IsReached};
 ghost use Rattle.loose.specs.Classes.{class_in};
 ghost use Rattle.lawful.specs.LooseNodes.{AreBounded, IsExpandedAt, searched_runs};
 
-use crate::again::{again, weight};
+use crate::again::weight;
 use crate::expand::{ExpandScope, LooseWays, expand};
 use crate::node::LooseNode;
 use crate::search_room::SearchRoom;
@@ -19,6 +19,7 @@ use model::end::Limits;
 use regions::Machine;
 use settling::AnalyzedDesign;
 use std::alloc::{AllocError, Global};
+use wavetexts::TextTail;
 
 /// The start of a design's run, on the heap.
 pub(crate) fn start_of<'d>(
@@ -87,8 +88,6 @@ impl<'a, 'd, T: RunTelling> LooseRuns<'a, 'd, T> {
 }
 
 impl<'a, 'd, T: RunTelling> Orders for LooseRuns<'a, 'd, T> {
-    ghost use Rattle.statekeys.specs.ClassKeys.{IsClassKey};
-
     type Move = LooseTransition;
 
     type Node = LooseNode<'d>;
@@ -99,13 +98,16 @@ impl<'a, 'd, T: RunTelling> Orders for LooseRuns<'a, 'd, T> {
 
     ghost runs = { λ o. T.runs o.telling.now o.analyzed_design (class_in o.classes.items) o.limits };
 
-    ghost has_key = { λ o node key. IsClassKey (class_in o.classes.items) node.machine.value.core node.machine.value.values key };
+    ghost has_key = { λ o node key. T.is_key o.telling.now (class_in o.classes.items) node key };
 
     // The machine at the start of the design's run.
     fn start(&self, alloc: Global) -> Result<LooseNode<'d>, AllocError> {
         let machine = start_of(alloc, self.analyzed_design.design())?;
         machine.stands();
-        Ok(LooseNode { machine })
+        Ok(LooseNode {
+            machine,
+            tail: TextTail::new(alloc),
+        })
     }
 
     fn room(&self, alloc: Global) -> SearchRoom {
@@ -120,8 +122,9 @@ impl<'a, 'd, T: RunTelling> Orders for LooseRuns<'a, 'd, T> {
         node: LooseNode<'d>,
     ) -> Result<Expanded<LooseNode<'d>, LooseTransition, T::End>, AllocError> {
         let seen = self.telling.see(alloc, &node.machine)?;
+        let tail = node.tail.copied(alloc)?;
         let ways = self.ways(alloc, room, node)?;
-        let told = self.telling.tell(alloc, &seen, ways)?;
+        let told = self.telling.tell(alloc, &tail, &seen, ways)?;
         Ok(told)
     }
 
@@ -131,7 +134,7 @@ impl<'a, 'd, T: RunTelling> Orders for LooseRuns<'a, 'd, T> {
         key: &mut Vec<u8>,
         node: &LooseNode<'d>,
     ) -> Result<(), AllocError> {
-        room.parts.fill_key(key, &node.machine, &self.classes)
+        self.telling.key(room, key, node, &self.classes)
     }
 
     fn weight(&self, node: &LooseNode<'d>) -> usize {
@@ -146,8 +149,10 @@ impl<'a, 'd, T: RunTelling> Orders for LooseRuns<'a, 'd, T> {
         from: &LooseNode<'d>,
         moves: &[LooseTransition],
     ) -> Result<LooseNode<'d>, AllocError> {
-        let machine = again(alloc, room, &from.machine, &self.classes, moves)?;
-        Ok(LooseNode { machine })
+        let node = self
+            .telling
+            .again(alloc, room, from, &self.classes, moves)?;
+        Ok(node)
     }
 
     fn same_end(&self, a: &T::End, b: &T::End) -> bool {

@@ -5,12 +5,13 @@ use std::alloc::Global;
 use turn::TurnLog;
 
 /// What is kept from one node to the next: a log that machines are lent for their turns, what walks work in, and what ways by parts are found
-/// in, where keys are made, too.
+/// in, where keys are made, too; and the last class key.
 #[derive(Drop)]
 pub(crate) struct SearchRoom {
     pub(crate) log: TurnLog,
     pub(crate) walk: LooseRoom,
     pub(crate) parts: PartsRoom,
+    pub(crate) key: Vec<u8>,
 }
 
 impl SearchRoom {
@@ -20,6 +21,7 @@ impl SearchRoom {
             log: TurnLog::new(alloc),
             walk: LooseRoom::new(alloc),
             parts: PartsRoom::new(alloc),
+            key: Vec::new(alloc),
         }
     }
 }

@@ -2,8 +2,8 @@
 //!
 //! 1. `classes_of` gives each register a class, so that what one process assigns by nonblocking assignments is of one class.
 //! 2. `lead` leads a run by the transitions of a loose run (`LeadScope`), and answers it: its lawful journal, and the machine behind that.
-//! 3. `lawful_journal` leads one so, and answers the journal where the run has the same text and the same end; `observed_journal` does where
-//!    an observer sees the same text and the same end of it.
+//! 3. `lawful_journal` leads one so, and answers the journal where the run has the same text and the same end; `seen_journal` answers
+//!    what an observer sees of it besides.
 #![tactic(auto)]
 
 mod class_counts;
@@ -19,4 +19,4 @@ pub use classes::classes_of;
 pub use journal::{LooseRun, lawful_journal};
 pub use lead_scope::LeadScope;
 pub use led_run::{LedRun, lead};
-pub use observed::{ObservedRun, observed_journal};
+pub use observed::{SeenJournal, seen_journal};

@@ -15,13 +15,14 @@ use Rattle.explore.specs.declared.stopped.Stopped.TheVariants as stopped
 use Rattle.explore.specs.Search.{AreDistinct, IsShown}
 use Rattle.looseruns.specs.ObservedJournals.{Observer, SeenEnd, IsObservedText, AreAllObservedTexts}
 use Rattle.verdict.specs.declared.claim.Claim.{Claim}
-use Rattle.wavetexts.specs.Waves.{AreWavesOf, IsObservedWaveOf, wave_text_of}
+use Rattle.lawful.specs.ArrangedNodes.{IsArrangedText, IsArrangementOf}
+use Rattle.wavetexts.specs.Waves.{AreWavesOf, IsWaveOf, wave_text_of}
 use Rattle.std.proofs.lemmas.List.Elements.{All-nil, All-cons, All-head, All-tail}
 use Rattle.arguments.specs.declared.search_options.SearchOptions.{SearchOptions}
 use Rattle.arguments.specs.declared.observed.Observed.{Observed}
 use Rattle.files.specs.Saved.{IsHeld, KeepsFiles, MadeFile, SavesAllWhereAsked, SavesSomeWhereAsked}
 use Rattle.program.specs.Findings.{OnEvery, endless_number, finding_of, first_text, journals_of, limits_in, search_stop_of, unless_stopped}
-use Rattle.program.specs.Observed.{AreAllWaves, AreFoundWaves, AreRegistersAsked, AreRegistersOf, AreWavesSaid, HasFoundWaves, HasLeftWaves, HasNoRegister, HasObserved, HasObservedTexts, HasSaidWaves, HasSavedWaves, IsLawfulWave, IsNameTold, IsObservedEnding, IsWaveClaimWithin, observer_of_registers, texts_bound, wave_claim_of}
+use Rattle.program.specs.Observed.{AreAllWaves, AreFoundWaves, AreRegistersAsked, AreRegistersOf, AreWavesSaid, HasFoundWaves, HasLeftWaves, HasNoRegister, HasObserved, HasArrangedTexts, HasSaidWaves, HasSavedWaves, IsLawfulWave, IsNameTold, IsObservedEnding, IsWaveClaimWithin, observer_of_registers, texts_bound, wave_claim_of}
 use Rattle.program.specs.declared.ending.Ending.{Ending}
 use Rattle.program.specs.declared.ending.Ending.TheVariants as ending
 use Rattle.frontend.specs.Sources.{IsDesignOf}
@@ -45,11 +46,11 @@ texts_within Met true most bound count is met = inr (refl, met refl)
 texts_within Met false most bound count is met = inl (refl, ltb-false count most is)
 
 wave_within : (code : Compiled) (search_options : SearchOptions) (registers : List ℕ) (t : Option Stopped) (nodes : ℕ) (endless : Option ℕ) (count : ℕ) → nodes ≤ search_options.max_states
-    → (t ≡ Some stopped.Shown → nat_lt count search_options.max_texts ≡ true → HasObservedTexts code (limits_in search_options) registers (texts_bound search_options.max_texts)) → IsWaveClaimWithin code search_options registers count (wave_claim_of search_options t nodes endless count)
+    → (t ≡ Some stopped.Shown → nat_lt count search_options.max_texts ≡ true → HasArrangedTexts code (limits_in search_options) registers (texts_bound search_options.max_texts)) → IsWaveClaimWithin code search_options registers count (wave_claim_of search_options t nodes endless count)
 wave_within code search_options registers None nodes endless count few met = few
 wave_within code search_options registers (Some stopped.Nodes) nodes endless count few met = refl
 wave_within code search_options registers (Some stopped.Shown) nodes endless count few met =
-    texts_within (HasObservedTexts code (limits_in search_options) registers) (nat_lt count search_options.max_texts) search_options.max_texts (texts_bound search_options.max_texts) count refl (met refl)
+    texts_within (HasArrangedTexts code (limits_in search_options) registers) (nat_lt count search_options.max_texts) search_options.max_texts (texts_bound search_options.max_texts) count refl (met refl)
 wave_within code search_options registers (Some stopped.Unfollowed) nodes endless count few met = refl
 wave_within code search_options registers (Some stopped.Bytes) nodes endless count few met = refl
 wave_within code search_options registers (Some stopped.Memory) nodes endless count few met = tt
@@ -71,55 +72,58 @@ wave_number items search_options (Some stopped.Shown) nodes count found None num
 wave_number items search_options (Some stopped.Shown) nodes count found (Some j) number is counted = cc
 wave_number items search_options t nodes count found told number is counted = claim_number items search_options t nodes count found told number is counted
 
--- what is shown of observed texts has a wave that was found, where each of them has
-waves_there : (code : Compiled) (limits : Limits) (registers : List ℕ) (others : List (Shown Entry SeenEnd)) (ss : List (Shown Entry End)) → AreAllObservedTexts (design_of code) limits (observer_of_registers registers) (IsShown others)
-    → All (λ s. IsShown ss (wave_text_of (length registers) s.text.items s.end) s.end.end) others → AreAllWaves code limits registers ss
+-- what is shown of observed texts, in order, has a wave that was found, where each of them has
+waves_there : (code : Compiled) (limits : Limits) (registers : List ℕ) (others : List (Shown Entry SeenEnd)) (ss : List (Shown Entry End)) → AreAllObservedTexts (design_of code) limits (observer_of_registers registers) (λ text end. Any (λ s. IsArrangementOf (length registers) text end s.text.items s.end) others)
+    → All (λ s. IsShown ss (s.text.items ++ s.end.seen) s.end.end) others → AreAllWaves code limits registers ss
 waves_there code limits registers others ss all there journal text end seen timely ends some wants = of_one (all journal text end seen timely ends some wants)
   where
-    of_one : IsShown others text end → IsShown ss (wave_text_of (length registers) text end) end.end
+    of_one : Any (λ s. IsArrangementOf (length registers) text end s.text.items s.end) others → IsShown ss (wave_text_of (length registers) text end) end.end
     of_one (k, s, lt, at, (same_text, same_end)) =
-        subst (λ (t : List ℕ). IsShown ss (wave_text_of (length registers) t end) end.end) same_text
-        (subst (λ (e : SeenEnd). IsShown ss (wave_text_of (length registers) s.text.items e) e.end) same_end
-        (subst (λ (x : Shown Entry SeenEnd). IsShown ss (wave_text_of (length registers) x.text.items x.end) x.end.end) at (there k s lt)))
+        subst (λ (t : List ℕ). IsShown ss t end.end) same_text
+        (subst (λ (e : End). IsShown ss (s.text.items ++ s.end.seen) e) same_end
+        (subst (λ (x : Shown Entry SeenEnd). IsShown ss (x.text.items ++ x.end.seen) x.end.end) at (there k s lt)))
 
 -- the wave of an observed text is that of its lawful journal
-waves_lawful : (code : Compiled) (limits : Limits) (registers : List ℕ) (others : List (Shown Entry SeenEnd)) → All (λ s. IsObservedText (design_of code) limits (observer_of_registers registers) s.moves.items s.text.items s.end) others
-    → All (λ s. orders.IsWithinLimits limits s.moves.items) others → All (λ s. (w : Shown Entry End) → IsObservedWaveOf (length registers) s w → IsLawfulWave code limits registers w) others
+waves_lawful : (code : Compiled) (limits : Limits) (registers : List ℕ) (others : List (Shown Entry SeenEnd)) → All (λ s. IsArrangedText (design_of code) limits (length registers) (observer_of_registers registers) s.moves.items s.text.items s.end) others
+    → All (λ s. orders.IsWithinLimits limits s.moves.items) others → All (λ s. (w : Shown Entry End) → IsWaveOf s w → IsLawfulWave code limits registers w) others
 waves_lawful code limits registers others sound within k d lt w (text, end, moves) =
     let s = get_or others k d in
+    let arranged : IsArrangedText (design_of code) limits (length registers) (observer_of_registers registers) s.moves.items s.text.items s.end = sound k d lt in
     record {
-      text = s.text.items;
-      end = s.end;
-      lawful = subst (λ (j : List Entry). IsObservedText (design_of code) limits (observer_of_registers registers) j s.text.items s.end) (sym moves) (sound k d lt);
+      text = arranged.seen_text;
+      end = arranged.seen_end;
+      lawful = subst (λ (j : List Entry). IsObservedText (design_of code) limits (observer_of_registers registers) j arranged.seen_text arranged.seen_end) (sym moves) arranged.observed;
       within = subst (λ (j : List Entry). orders.IsWithinLimits limits j) (sym moves) (within k d lt);
-      text_is = text;
-      end_is = end;
+      text_is = text ∙ arranged.whole_is;
+      end_is = end ∙ arranged.end_is;
     }
 
 none_below : (i : ℕ) → i < 0 → ⊥
 none_below i lt = omega (arith, lt)
 
 -- each of the waves is that of a lawful journal
-waves_sound : (code : Compiled) (limits : Limits) (registers : List ℕ) (before ss : List (Shown Entry End)) (others : List (Shown Entry SeenEnd)) → before ≡ [] → All (λ w. Contains before w ⊎ Any (λ o. IsObservedWaveOf (length registers) o w) others) ss
-    → All (λ s. (w : Shown Entry End) → IsObservedWaveOf (length registers) s w → IsLawfulWave code limits registers w) others → All (IsLawfulWave code limits registers) ss
+waves_sound : (code : Compiled) (limits : Limits) (registers : List ℕ) (before ss : List (Shown Entry End)) (others : List (Shown Entry SeenEnd)) → before ≡ [] → All (λ w. Contains before w ⊎ Any (λ o. IsWaveOf o w) others) ss
+    → All (λ s. (w : Shown Entry End) → IsWaveOf s w → IsLawfulWave code limits registers w) others → All (IsLawfulWave code limits registers) ss
 waves_sound code limits registers before ss others none each lawful k d lt = by_case (get_or ss k d) (each k d lt)
   where
-    by_case : (w : Shown Entry End) → Contains before w ⊎ Any (λ o. IsObservedWaveOf (length registers) o w) others → IsLawfulWave code limits registers w
+    by_case : (w : Shown Entry End) → Contains before w ⊎ Any (λ o. IsWaveOf o w) others → IsLawfulWave code limits registers w
     by_case w (inl (i, within, at)) = absurd (none_below i (subst (λ (l : List (Shown Entry End)). i < length l) none within))
-    by_case w (inr (i, o, within, at, is)) = lawful i o within w (subst (λ (x : Shown Entry SeenEnd). IsObservedWaveOf (length registers) x w) (sym at) is)
+    by_case w (inr (i, o, within, at, is)) = lawful i o within w (subst (λ (x : Shown Entry SeenEnd). IsWaveOf x w) (sym at) is)
 
-pub waves_found : {J E : Type 0} (items : J → List Entry) (code : Compiled) (search_options : SearchOptions) (registers : List ℕ) (observe : Observer) (s t : Option Stopped) (nodes : ℕ) (found told : Option J) (number : Option ℕ) (claim : Claim) (added : Result Bool E)
-    (others : List (Shown Entry SeenEnd)) (before ss : List (Shown Entry End)) → observe ≡ observer_of_registers registers → nodes ≤ search_options.max_states → claim ≡ wave_claim_of search_options t nodes number (length ss) → t ≡ search_stop_of s added → told ≡ unless_stopped t found
-    → number ≡ option_map (λ j. length ss + 1) told → All (λ o. IsObservedText (design_of code) (limits_in search_options) observe o.moves.items o.text.items o.end) others → All (λ o. orders.IsWithinLimits (limits_in search_options) o.moves.items) others
-    → (s ≡ None → AreAllObservedTexts (design_of code) (limits_in search_options) observe (IsShown others)) → IfSome found (λ j. orders.IsEndlessJournal (design_of code) (limits_in search_options) (items j))
-    → before ≡ [] → All (λ w. Contains before w ⊎ Any (λ o. IsObservedWaveOf (length registers) o w) others) ss
+pub waves_found : {J E : Type 0} (items : J → List Entry) (code : Compiled) (search_options : SearchOptions) (registers : List ℕ) (observe : Observer) (seen_registers : ℕ) (s t : Option Stopped) (nodes : ℕ) (found told : Option J) (number : Option ℕ) (claim : Claim) (added : Result Bool E)
+    (others : List (Shown Entry SeenEnd)) (before ss : List (Shown Entry End)) → observe ≡ observer_of_registers registers → seen_registers ≡ length registers → nodes ≤ search_options.max_states → claim ≡ wave_claim_of search_options t nodes number (length ss) → t ≡ search_stop_of s added → told ≡ unless_stopped t found
+    → number ≡ option_map (λ j. length ss + 1) told → All (λ o. IsArrangedText (design_of code) (limits_in search_options) seen_registers observe o.moves.items o.text.items o.end) others → All (λ o. orders.IsWithinLimits (limits_in search_options) o.moves.items) others
+    → (s ≡ None → AreAllObservedTexts (design_of code) (limits_in search_options) observe (λ text end. Any (λ x. IsArrangementOf seen_registers text end x.text.items x.end) others)) → IfSome found (λ j. orders.IsEndlessJournal (design_of code) (limits_in search_options) (items j))
+    → before ≡ [] → All (λ w. Contains before w ⊎ Any (λ o. IsWaveOf o w) others) ss
     → AllPairs AreDistinct others → (s ≡ Some stopped.Shown → length others ≡ texts_bound search_options.max_texts) → IfOk added (λ all. all ≡ false → length ss ≡ search_options.max_texts)
-    → IfOk added (λ all. IsTrue all → All (λ o. IsShown ss (wave_text_of (length registers) o.text.items o.end) o.end.end) others) → AllPairs AreDistinct ss → length ss ≤ search_options.max_texts
+    → IfOk added (λ all. IsTrue all → All (λ o. IsShown ss (o.text.items ++ o.end.seen) o.end.end) others) → AllPairs AreDistinct ss → length ss ≤ search_options.max_texts
     → AreFoundWaves code search_options registers claim ss (option_map items told)
-waves_found items code search_options registers observe s t nodes found told number claim added others before ss sees few claimed stops tells counted sound within all never none each apart most full there distinct short =
+waves_found items code search_options registers observe seen_registers s t nodes found told number claim added others before ss sees counts few claimed stops tells counted sound within all never none each apart most full there distinct short =
     let limits = limits_in search_options in
-    let seen = subst (λ (o : Observer). All (λ x. IsObservedText (design_of code) limits o x.moves.items x.text.items x.end) others) sees sound in
-    let every = subst (λ (o : Observer). s ≡ None → AreAllObservedTexts (design_of code) limits o (IsShown others)) sees all in
+    let there_seen = subst (λ (o : Observer). All (λ x. IsArrangedText (design_of code) limits seen_registers o x.moves.items x.text.items x.end) others) sees sound in
+    let seen = subst (λ (n : ℕ). All (λ x. IsArrangedText (design_of code) limits n (observer_of_registers registers) x.moves.items x.text.items x.end) others) counts there_seen in
+    let all_seen = subst (λ (o : Observer). s ≡ None → AreAllObservedTexts (design_of code) limits o (λ text end. Any (λ x. IsArrangementOf seen_registers text end x.text.items x.end) others)) sees all in
+    let every = subst (λ (n : ℕ). s ≡ None → AreAllObservedTexts (design_of code) limits (observer_of_registers registers) (λ text end. Any (λ x. IsArrangementOf n text end x.text.items x.end) others)) counts all_seen in
     subst (λ (c : Claim). AreFoundWaves code search_options registers c ss (option_map items told)) (sym claimed) (record {
       sound = waves_sound code limits registers before ss others none each (waves_lawful code limits registers others seen within);
       distinct = distinct;
@@ -135,10 +139,10 @@ waves_found items code search_options registers observe s t nodes found told num
       numbered = wave_number items search_options t nodes (length ss) found told number tells counted;
     })
   where
-    put : (s ≡ None) × (added ≡ Ok true) → (s ≡ None → AreAllObservedTexts (design_of code) (limits_in search_options) (observer_of_registers registers) (IsShown others)) → AreAllWaves code (limits_in search_options) registers ss
+    put : (s ≡ None) × (added ≡ Ok true) → (s ≡ None → AreAllObservedTexts (design_of code) (limits_in search_options) (observer_of_registers registers) (λ text end. Any (λ x. IsArrangementOf (length registers) text end x.text.items x.end) others)) → AreAllWaves code (limits_in search_options) registers ss
     put (is, whole) every =
         waves_there code (limits_in search_options) registers others ss (every is)
-        (added_all added (All (λ o. IsShown ss (wave_text_of (length registers) o.text.items o.end) o.end.end) others) whole there)
+        (added_all added (All (λ o. IsShown ss (o.text.items ++ o.end.seen) o.end.end) others) whole there)
 
 -- what was said of waves, where the files were the same before it
 
@@ -180,33 +184,33 @@ left_waves code asked search_options prefix registers claim waves endless said o
 -- waves of texts, one by one
 
 -- each wave is that of a text
-waves_from : (n : ℕ) (ss : List (Shown Entry SeenEnd)) (ws : List (Shown Entry End)) → AreWavesOf n ss ws → All (λ w. Any (λ s. IsObservedWaveOf n s w) ss) ws
-waves_from n [] [] are = All-nil (λ (w : Shown Entry End). Any (λ (s : Shown Entry SeenEnd). IsObservedWaveOf n s w) [])
-waves_from n [] (w ∷ ws) are = absurd are
-waves_from n (s ∷ ss) [] are = absurd are
-waves_from n (s ∷ ss) (w ∷ ws) (one, more) =
-    All-cons (λ (x : Shown Entry End). Any (λ (y : Shown Entry SeenEnd). IsObservedWaveOf n y x) (s ∷ ss)) w ws (0, s, omega arith, refl, one) (λ k d lt. behind (get_or ws k d) (waves_from n ss ws more k d lt))
+waves_from : (ss : List (Shown Entry SeenEnd)) (ws : List (Shown Entry End)) → AreWavesOf ss ws → All (λ w. Any (λ s. IsWaveOf s w) ss) ws
+waves_from [] [] are = All-nil (λ (w : Shown Entry End). Any (λ (s : Shown Entry SeenEnd). IsWaveOf s w) [])
+waves_from [] (w ∷ ws) are = absurd are
+waves_from (s ∷ ss) [] are = absurd are
+waves_from (s ∷ ss) (w ∷ ws) (one, more) =
+    All-cons (λ (x : Shown Entry End). Any (λ (y : Shown Entry SeenEnd). IsWaveOf y x) (s ∷ ss)) w ws (0, s, omega arith, refl, one) (λ k d lt. behind (get_or ws k d) (waves_from ss ws more k d lt))
   where
-    behind : (x : Shown Entry End) → Any (λ y. IsObservedWaveOf n y x) ss → Any (λ y. IsObservedWaveOf n y x) (s ∷ ss)
+    behind : (x : Shown Entry End) → Any (λ y. IsWaveOf y x) ss → Any (λ y. IsWaveOf y x) (s ∷ ss)
     behind x (k, y, lt, at, is) = (suc k, y, omega (arith, lt), at, is)
 
 -- each of some waves was there before or is that of a text, where each is one of those or of the waves of texts
-pub waves_each : (n : ℕ) (old new ws : List (Shown Entry End)) (ss : List (Shown Entry SeenEnd)) → AreWavesOf n ss ws → All (λ w. Contains old w ⊎ Contains ws w) new → All (λ w. Contains old w ⊎ Any (λ s. IsObservedWaveOf n s w) ss) new
-waves_each n old new ws ss are each k d lt = by_case (get_or new k d) (each k d lt)
+pub waves_each : (old new ws : List (Shown Entry End)) (ss : List (Shown Entry SeenEnd)) → AreWavesOf ss ws → All (λ w. Contains old w ⊎ Contains ws w) new → All (λ w. Contains old w ⊎ Any (λ s. IsWaveOf s w) ss) new
+waves_each old new ws ss are each k d lt = by_case (get_or new k d) (each k d lt)
   where
-    by_case : (w : Shown Entry End) → Contains old w ⊎ Contains ws w → Contains old w ⊎ Any (λ s. IsObservedWaveOf n s w) ss
+    by_case : (w : Shown Entry End) → Contains old w ⊎ Contains ws w → Contains old w ⊎ Any (λ s. IsWaveOf s w) ss
     by_case w (inl before) = inl before
-    by_case w (inr (i, within, at)) = inr (subst (λ (x : Shown Entry End). Any (λ s. IsObservedWaveOf n s x) ss) at (waves_from n ss ws are i w within))
+    by_case w (inr (i, within, at)) = inr (subst (λ (x : Shown Entry End). Any (λ s. IsWaveOf s x) ss) at (waves_from ss ws are i w within))
 
 -- what holds of waves holds of the wave of each text
-pub texts_of_waves : (n : ℕ) (Q : List ℕ → End → Type 0) (ss : List (Shown Entry SeenEnd)) (ws : List (Shown Entry End)) → AreWavesOf n ss ws → All (λ w. Q w.text.items w.end) ws → All (λ s. Q (wave_text_of n s.text.items s.end) s.end.end) ss
-texts_of_waves n Q [] [] are all = All-nil (λ (s : Shown Entry SeenEnd). Q (wave_text_of n s.text.items s.end) s.end.end)
-texts_of_waves n Q [] (w ∷ ws) are all = absurd are
-texts_of_waves n Q (s ∷ ss) [] are all = absurd are
-texts_of_waves n Q (s ∷ ss) (w ∷ ws) ((text, end, moves), more) all =
-    All-cons (λ (x : Shown Entry SeenEnd). Q (wave_text_of n x.text.items x.end) x.end.end) s ss
+pub texts_of_waves : (Q : List ℕ → End → Type 0) (ss : List (Shown Entry SeenEnd)) (ws : List (Shown Entry End)) → AreWavesOf ss ws → All (λ w. Q w.text.items w.end) ws → All (λ s. Q (s.text.items ++ s.end.seen) s.end.end) ss
+texts_of_waves Q [] [] are all = All-nil (λ (s : Shown Entry SeenEnd). Q (s.text.items ++ s.end.seen) s.end.end)
+texts_of_waves Q [] (w ∷ ws) are all = absurd are
+texts_of_waves Q (s ∷ ss) [] are all = absurd are
+texts_of_waves Q (s ∷ ss) (w ∷ ws) ((text, end, moves), more) all =
+    All-cons (λ (x : Shown Entry SeenEnd). Q (x.text.items ++ x.end.seen) x.end.end) s ss
     (subst (λ (t : List ℕ). Q t s.end.end) text (subst (λ (e : End). Q w.text.items e) end (All-head (λ (x : Shown Entry End). Q x.text.items x.end) w ws all)))
-    (texts_of_waves n Q ss ws more (All-tail (λ (x : Shown Entry End). Q x.text.items x.end) w ws all))
+    (texts_of_waves Q ss ws more (All-tail (λ (x : Shown Entry End). Q x.text.items x.end) w ws all))
 
 -- what is said of waves
 

@@ -17,6 +17,7 @@ use Rattle.verdict.specs.declared.claim.Claim.{Claim}
 use Rattle.verdict.specs.declared.claim.Claim.TheVariants.{Every, SoFar, Sampled}
 use Rattle.verdict.specs.declared.claim.SearchStop.TheVariants.{States, Texts, Entries, Megabytes, Memory}
 use Rattle.verdict.specs.WaveLines.{wave_verdict_text}
+use Rattle.lawful.specs.ArrangedNodes.{IsArrangedText}
 use Rattle.wavetexts.specs.AtTimes.{printed_lines}
 use Rattle.wavetexts.specs.Names.{NamesRegisters, NamesUnknown, registers_from}
 use Rattle.wavetexts.specs.Waves.{wave_text_of}
@@ -70,7 +71,7 @@ abbrev pub AreAllWaves : Compiled → Limits → List ℕ → List (Shown Entry 
 AreAllWaves code limits registers waves =
     AreAllObservedTexts (design_of code) limits (observer_of_registers registers) (λ text end. IsShown waves (wave_text_of (length registers) text end) end.end)
 
--- the most texts, in which the order of lines at one time counts, that are searched where so many waves may be found
+-- the most texts and ends, with the lines of each time in order, that are searched where so many waves may be found
 abbrev pub texts_bound : ℕ → ℕ
 texts_bound waves = min (waves * 1000) 4294967295
 
@@ -83,20 +84,20 @@ abbrev pub wave_claim_of : SearchOptions → Option Stopped → ℕ → Option �
 wave_claim_of search_options (Some stopped.Shown) nodes endless count = SoFar (Texts (most_texts search_options count))
 wave_claim_of search_options s nodes endless count = claim_of search_options s nodes endless
 
--- So many texts, in which the order of lines at one time counts, were found, each with its end and a lawful journal in time that has both: no two have one text and one end.
-pub record HasObservedTexts (code : Compiled) (limits : Limits) (registers : List ℕ) (count : ℕ) : Type 0 where
+-- So many observed texts were found with the lines of each time in order, each with its end and a lawful journal in time that has both: no two have one text and one end.
+pub record HasArrangedTexts (code : Compiled) (limits : Limits) (registers : List ℕ) (count : ℕ) : Type 0 where
   pub texts : List (Shown Entry SeenEnd)
-  pub lawful : All (λ s. IsObservedText (design_of code) limits (observer_of_registers registers) s.moves.items s.text.items s.end) texts
+  pub lawful : All (λ s. IsArrangedText (design_of code) limits (length registers) (observer_of_registers registers) s.moves.items s.text.items s.end) texts
   pub distinct : AllPairs AreDistinct texts
   pub count_is : length texts ≡ count
 
 -- The claim, on so many waves, keeps to what was asked: it has no more states than the search may reach, and names the limit of states, entries or megabytes that was given;
--- or that of waves, where so many were found, or of texts in which the order of lines at one time counts, where so many of these were.
+-- or that of waves, where so many were found, or of texts and ends, where so many of these were.
 abbrev pub IsWaveClaimWithin : Compiled → SearchOptions → List ℕ → ℕ → Claim → Type 0
 IsWaveClaimWithin code search_options registers count (Every states endless) = states ≤ search_options.max_states
 IsWaveClaimWithin code search_options registers count (SoFar (States most)) = most ≡ search_options.max_states
 IsWaveClaimWithin code search_options registers count (SoFar (Texts most)) =
-    ((most ≡ search_options.max_texts) × (most ≤ count)) ⊎ ((most ≡ texts_bound search_options.max_texts) × HasObservedTexts code (limits_in search_options) registers most)
+    ((most ≡ search_options.max_texts) × (most ≤ count)) ⊎ ((most ≡ texts_bound search_options.max_texts) × HasArrangedTexts code (limits_in search_options) registers most)
 IsWaveClaimWithin code search_options registers count (SoFar (Entries most)) = most ≡ search_options.max_entries
 IsWaveClaimWithin code search_options registers count (SoFar (Megabytes most)) = most ≡ search_options.max_memory
 IsWaveClaimWithin code search_options registers count (SoFar Memory) = Unit {0}

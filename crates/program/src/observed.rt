@@ -1,12 +1,13 @@
 //! `races FILE --observe ..`: waves are searched, which is what runs have in common where more or less than their lines, in order, is compared. What is said
 //! of them is told, and then their journals are written.
 
-ghost use Rattle.std.specs.Prelude.{◌≡◌, ◌≢◌, ◌⊎◌, IfErr, IfOk, IsTrue, OnOk, false, length, option_map};
+ghost use Rattle.std.specs.Prelude.{◌≡◌, ◌≢◌, ◌⊎◌, ◌++◌, IfErr, IfOk, IsTrue, OnOk, false, length, option_map};
 ghost use Rattle.std.specs.Io.KnownBytes.{Keeps};
 ghost use Rattle.std.specs.List.{All, Any, Contains};
 ghost use Rattle.explore.specs.Search.{IsShown};
 ghost use Rattle.observers.specs.Observers.{observer_of};
-ghost use Rattle.wavetexts.specs.Waves.{IsObservedWaveOf, wave_text_of};
+ghost use Rattle.lawful.specs.ArrangedNodes.{registers_seen};
+ghost use Rattle.wavetexts.specs.Waves.{IsWaveOf};
 ghost use Rattle.arguments.specs.Options.{CanSearch};
 ghost use Rattle.arguments.specs.declared.observed.Observed.TheVariants.{Lines};
 ghost use Rattle.files.specs.Saved.{KeepsFiles, LeadsElsewhere, journal_path};
@@ -39,7 +40,7 @@ use wavetexts::{
     NamedRegisters, WaveNames, all_registers, printed_lines, push_waves, registers_named, waves_of,
 };
 
-/// As many texts, in which the order of lines at one time counts, are searched for each wave that may be found.
+/// As many texts and ends are searched for each wave that may be found, since two may be one wave.
 const TEXTS_PER_WAVE: u64 = 1000;
 
 /// And never more than these.
@@ -152,7 +153,8 @@ fn tell_waves<F: Files, O: Write>(
 
 /// An observer of these registers.
 fn observing_of(alloc: Global, registers: &[RegId]) -> Result<Observing, AllocError>
-    ensures { IfOk result (λ observing. observer_of observing ≡ observer_of_registers registers.now) }
+    ensures sees { IfOk result (λ observing. observer_of observing ≡ observer_of_registers registers.now) }
+    ensures count { IfOk result (λ observing. registers_seen observing ≡ length registers.now) }
 {
     let mut all = Vec::new(alloc);
     all.extend_from_slice(registers)?;
@@ -188,7 +190,7 @@ fn find_waves<P: Progress>(
         shown: Vec::new(alloc),
         most: search_options.max_texts as usize,
     };
-    let added = add_waves(&mut all, alloc, registers.len(), others);
+    let added = add_waves(&mut all, alloc, others);
     let KnownTexts { shown, most: _ } = all;
     let stopped = stop_of(stopped, added);
     let endless = endless_of(stopped, endless);
@@ -201,26 +203,25 @@ fn find_waves<P: Progress>(
     })
 }
 
-/// Adds the waves of observed texts of so many registers, each unless one with its end is there. It stops where as many as may be are there. The answer is whether each
+/// Adds the waves of observed texts with the lines of each time in order, each unless one with its end is there. It stops where as many as may be are there. The answer is whether each
 /// is there now.
 fn add_waves(
     all: &mut KnownTexts,
     alloc: Global,
-    registers: usize,
     others: Vec<Shown<Entry, ObservedEnd>>,
 ) -> Result<bool, AllocError>
     requires few { AreFew all.old }
     ensures few { AreFew all.new }
     ensures most { all.new.most ≡ all.old.most }
-    ensures each { All (λ w. Contains all.old.shown.items w ⊎ Any (λ s. IsObservedWaveOf registers s w) others.items) all.new.shown.items }
-    ensures there { IfOk result (λ whole. IsTrue whole → All (λ s. IsShown all.new.shown.items (wave_text_of registers s.text.items s.end) s.end.end) others.items) }
+    ensures each { All (λ w. Contains all.old.shown.items w ⊎ Any (λ s. IsWaveOf s w) others.items) all.new.shown.items }
+    ensures there { IfOk result (λ whole. IsTrue whole → All (λ s. IsShown all.new.shown.items (s.text.items ++ s.end.seen) s.end.end) others.items) }
     ensures full { IfOk result (λ whole. whole ≡ false → length all.new.shown.items ≡ all.new.most) }
 {
-    let waves = waves_of(alloc, registers, others)?;
+    let waves = waves_of(alloc, others)?;
     all.add_all(waves)
 }
 
-/// The most texts, in which the order of lines at one time counts, that are searched.
+/// The most texts and ends that are searched.
 fn texts_bound(search_options: SearchOptions) -> u32
     ensures { result ≡ texts_bound search_options.max_texts }
 {

@@ -4,3 +4,4 @@ pub mod Named
 pub mod TextStanding
 pub mod Arranged
 pub mod Told
+pub mod ReadTexts

@@ -18,11 +18,11 @@ byte_first b bytes is =
     rw at (omega arith)
 
 -- the lines of a text with a byte before it
-with_newline : (b : ℕ) (lines : List (List ℕ)) → (b == 10) ≡ true → with_byte b lines ≡ (b ∷ []) ∷ lines
+pub with_newline : (b : ℕ) (lines : List (List ℕ)) → (b == 10) ≡ true → with_byte b lines ≡ (b ∷ []) ∷ lines
 with_newline b [] is = refl
 with_newline b (line ∷ lines) is = rw is refl
 
-with_other : (b : ℕ) (line : List ℕ) (lines : List (List ℕ)) → (b == 10) ≡ false → with_byte b (line ∷ lines) ≡ (b ∷ line) ∷ lines
+pub with_other : (b : ℕ) (line : List ℕ) (lines : List (List ℕ)) → (b == 10) ≡ false → with_byte b (line ∷ lines) ≡ (b ∷ line) ∷ lines
 with_other b line lines is = rw is refl
 
 line_alone : (b : ℕ) → (b == 10) ≡ false → lines_of (b ∷ []) ≡ first_line (b ∷ []) ∷ lines_of (behind_line (b ∷ []))

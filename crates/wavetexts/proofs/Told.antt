@@ -8,7 +8,7 @@ use Rattle.looseruns.specs.ObservedJournals.{SeenEnd}
 use Rattle.verdict.specs.declared.waves.WaveDescription.{WaveDescription}
 use Rattle.verdict.specs.WaveLines.{wave_text}
 use Rattle.wavetexts.specs.ToldWaves.{AreWavesTold, IsWaveTold, TellsOthers, waves_text}
-use Rattle.wavetexts.specs.Waves.{AreWavesOf, IsObservedWaveOf}
+use Rattle.wavetexts.specs.Waves.{AreWavesOf, IsWaveOf}
 
 -- the lines on one wave more
 text_more : (ts : List WaveDescription) (t : WaveDescription) → waves_text (ts ++ t ∷ []) ≡ waves_text ts ++ wave_text t
@@ -41,8 +41,8 @@ pub tells_none : (names : List (List ℕ)) (registers : List ℕ) (prefix : Opti
 tells_none names registers prefix first n old = record { told = []; are_told = tt; new_is = sym (append-nil old) }
 
 -- one wave more of a text
-pub waves_more : (n : ℕ) (ss : List (Shown Entry SeenEnd)) (ws : List (Shown Entry End)) (s : Shown Entry SeenEnd) (w : Shown Entry End) → AreWavesOf n ss ws → IsObservedWaveOf n s w → AreWavesOf n (ss ++ s ∷ []) (ws ++ w ∷ [])
-waves_more n [] [] s w are one = (one, tt)
-waves_more n [] (v ∷ ws) s w are one = absurd are
-waves_more n (r ∷ ss) [] s w are one = absurd are
-waves_more n (r ∷ ss) (v ∷ ws) s w (first, are) one = (first, waves_more n ss ws s w are one)
+pub waves_more : (ss : List (Shown Entry SeenEnd)) (ws : List (Shown Entry End)) (s : Shown Entry SeenEnd) (w : Shown Entry End) → AreWavesOf ss ws → IsWaveOf s w → AreWavesOf (ss ++ s ∷ []) (ws ++ w ∷ [])
+waves_more [] [] s w are one = (one, tt)
+waves_more [] (v ∷ ws) s w are one = absurd are
+waves_more (r ∷ ss) [] s w are one = absurd are
+waves_more (r ∷ ss) (v ∷ ws) s w (first, are) one = (first, waves_more ss ws s w are one)

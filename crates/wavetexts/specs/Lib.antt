@@ -4,3 +4,5 @@ pub mod Waves
 pub mod Partings
 pub mod ToldWaves
 pub mod Names
+pub mod Reading
+pub mod ReadingLaws

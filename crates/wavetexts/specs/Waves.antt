@@ -10,14 +10,13 @@ use Rattle.wavetexts.specs.AtTimes.{at_times}
 abbrev pub wave_text_of : ℕ → List ℕ → SeenEnd → List ℕ
 wave_text_of registers text end = at_times registers (text ++ end.seen)
 
--- this is the wave of an observed text, with its end and its journal
-abbrev pub IsObservedWaveOf : ℕ → Shown Entry SeenEnd → Shown Entry End → Type 0
-IsObservedWaveOf registers s w =
-    (w.text.items ≡ wave_text_of registers s.text.items s.end) × (w.end ≡ s.end.end) × (w.moves.items ≡ s.moves.items)
+-- this is the wave of an observed text in which the lines of each time are in order: it goes on with what is seen at its end, and has its journal
+abbrev pub IsWaveOf : Shown Entry SeenEnd → Shown Entry End → Type 0
+IsWaveOf s w = (w.text.items ≡ s.text.items ++ s.end.seen) × (w.end ≡ s.end.end) × (w.moves.items ≡ s.moves.items)
 
--- these are the waves of observed texts, one by one
-abbrev pub AreWavesOf : ℕ → List (Shown Entry SeenEnd) → List (Shown Entry End) → Type 0
-AreWavesOf registers [] [] = Unit {0}
-AreWavesOf registers [] (w ∷ ws) = ⊥
-AreWavesOf registers (s ∷ ss) [] = ⊥
-AreWavesOf registers (s ∷ ss) (w ∷ ws) = IsObservedWaveOf registers s w × AreWavesOf registers ss ws
+-- these are the waves of such texts, one by one
+abbrev pub AreWavesOf : List (Shown Entry SeenEnd) → List (Shown Entry End) → Type 0
+AreWavesOf [] [] = Unit {0}
+AreWavesOf [] (w ∷ ws) = ⊥
+AreWavesOf (s ∷ ss) [] = ⊥
+AreWavesOf (s ∷ ss) (w ∷ ws) = IsWaveOf s w × AreWavesOf ss ws

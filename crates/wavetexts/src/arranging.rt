@@ -33,8 +33,8 @@ fn split_before<'a>(line: &[u8], text: &'a [u8]) -> Option<(&'a [u8], &'a [u8])>
     }
 }
 
-// Lines in order, and one more in its place among them.
-fn place(alloc: Global, line: &[u8], text: &[u8]) -> Result<Vec<u8>, AllocError>
+/// Lines in order, and one more in its place among them.
+pub(crate) fn place(alloc: Global, line: &[u8], text: &[u8]) -> Result<Vec<u8>, AllocError>
     ensures { IfOk result (λ all. all.items ≡ placed_line line.now text.now) }
 {
     let mut all = Vec::new(alloc);

@@ -1,43 +1,42 @@
 //! Waves: what runs have in common, besides their end, where the order of lines at one time doesn't count.
 
 ghost use Rattle.std.specs.Prelude.{◌≡◌, IfOk};
-ghost use Rattle.wavetexts.specs.Waves.{AreWavesOf, IsObservedWaveOf};
+ghost use Rattle.wavetexts.specs.Waves.{AreWavesOf, IsWaveOf};
 
-use crate::arranging::at_times;
 use explore::Shown;
 use looseruns::observed_end::ObservedEnd;
 use model::end::End;
 use model::entry::Entry;
 use std::alloc::{AllocError, Global};
 
-// The wave of an observed text of so many registers and its end, with its journal.
+// The wave of an observed text, in which the lines of each time are in order, and its end, with its journal.
 fn wave_of(
-    alloc: Global,
-    registers: usize,
     shown: Shown<Entry, ObservedEnd>,
 ) -> Result<Shown<Entry, End>, AllocError>
-    ensures { IfOk result (IsObservedWaveOf registers shown) }
+    ensures { IfOk result (IsWaveOf shown) }
 {
     let Shown { text, end, moves } = shown;
     let ObservedEnd { end, seen } = end;
     let mut whole = text;
     whole.extend_from_slice(seen.as_slice())?;
-    let text = at_times(alloc, registers, whole.as_slice())?;
-    Ok(Shown { text, end, moves })
+    Ok(Shown {
+        text: whole,
+        end,
+        moves,
+    })
 }
 
-/// The waves of observed texts of so many registers, one by one, each with its end and its journal. Fails where memory is refused.
+/// The waves of observed texts, in which the lines of each time are in order, one by one, each with its end and its journal. Fails where memory is refused.
 #[tactic(auto, using(crate::proofs::Told::waves_more))]
 pub fn waves_of(
     alloc: Global,
-    registers: usize,
     shown: Vec<Shown<Entry, ObservedEnd>>,
 ) -> Result<Vec<Shown<Entry, End>>, AllocError>
-    ensures { IfOk result (λ waves. AreWavesOf registers shown.items waves.items) }
+    ensures { IfOk result (λ waves. AreWavesOf shown.items waves.items) }
 {
     let mut waves = Vec::new(alloc);
     for one in shown {
-        waves.push(wave_of(alloc, registers, one)?)?;
+        waves.push(wave_of(one)?)?;
     }
     Ok(waves)
 }

@@ -3,4 +3,4 @@ use Rattle.wavetexts.specs.Waves.{AreWavesOf}
 use Rattle.wavetexts.proofs.waves.waves_of.Given as goal
 
 abbrev pub invariant-loop-one : goal.invariant-loop-one
-invariant-loop-one l = AreWavesOf l.registers l.yielded l.waves.items
+invariant-loop-one l = AreWavesOf l.yielded l.waves.items

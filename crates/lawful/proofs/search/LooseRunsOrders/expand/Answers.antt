@@ -13,17 +13,17 @@ ways-requires g c =
 pub returns-clause-next : goal.returns-clause-next
 returns-clause-next g c run stands =
     let o = c.args.self.now in
-    (c.in_ok-told.ensures (class_in o.classes.items) o.analyzed_design o.limits c.args.node run stands
+    (c.in_ok-told.ensures (class_in o.classes.items) o.analyzed_design o.limits c.args.node run stands c.in_ok-tail.ensures
     (c.deref-2.ensures.value ∙ (c.in_ok-seen.ensures ∙ ap (λ (p : MachineView). g.T.RunTelling.sight o.telling.now (state_at p)) c.deref.ensures)) c.in_ok-ways.ensures).next
 
 pub returns-clause-sound : goal.returns-clause-sound
 returns-clause-sound g c run stands =
     let o = c.args.self.now in
-    (c.in_ok-told.ensures (class_in o.classes.items) o.analyzed_design o.limits c.args.node run stands
+    (c.in_ok-told.ensures (class_in o.classes.items) o.analyzed_design o.limits c.args.node run stands c.in_ok-tail.ensures
     (c.deref-2.ensures.value ∙ (c.in_ok-seen.ensures ∙ ap (λ (p : MachineView). g.T.RunTelling.sight o.telling.now (state_at p)) c.deref.ensures)) c.in_ok-ways.ensures).sound
 
 pub returns-clause-cover : goal.returns-clause-cover
 returns-clause-cover g c whole run stands =
     let o = c.args.self.now in
-    (c.in_ok-told.ensures (class_in o.classes.items) o.analyzed_design o.limits c.args.node run stands
+    (c.in_ok-told.ensures (class_in o.classes.items) o.analyzed_design o.limits c.args.node run stands c.in_ok-tail.ensures
     (c.deref-2.ensures.value ∙ (c.in_ok-seen.ensures ∙ ap (λ (p : MachineView). g.T.RunTelling.sight o.telling.now (state_at p)) c.deref.ensures)) c.in_ok-ways.ensures).cover whole

@@ -3,7 +3,7 @@ use Rattle.lawful.proofs.Ways.{node_next, node_ended, node_covered}
 use Rattle.lawful.proofs.telling.LinesAloneRunTelling.tell.Goals as goal
 
 pub returns : goal.returns
-returns c class code limits node run stands seen at =
+returns c class code limits node run stands rest seen at =
     let xs = c.args.ways.successors.items in
     let ys = c.args.ways.ended.items in
     record {

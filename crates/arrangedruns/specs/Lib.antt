@@ -1,0 +1,2 @@
+pub mod ArrangedRuns
+pub mod ArrangedLaws
