@@ -16,7 +16,7 @@ use Rattle.explore.specs.Search.{AreDistinct, IsShown}
 use Rattle.looseruns.specs.ObservedJournals.{Observer, SeenEnd, IsObservedText, AreAllObservedTexts}
 use Rattle.verdict.specs.declared.claim.Claim.{Claim}
 use Rattle.lawful.specs.ArrangedNodes.{IsArrangedText, IsArrangementOf}
-use Rattle.wavetexts.specs.Waves.{AreWavesOf, IsWaveOf, wave_text_of}
+use Rattle.wavetexts.specs.Waves.{AreWavesOf, IsWaveOfText, wave_text_of}
 use Rattle.std.proofs.lemmas.List.Elements.{All-nil, All-cons, All-head, All-tail}
 use Rattle.arguments.specs.declared.search_options.SearchOptions.{SearchOptions}
 use Rattle.arguments.specs.declared.observed.Observed.{Observed}
@@ -85,7 +85,7 @@ waves_there code limits registers others ss all there journal text end seen time
 
 -- the wave of an observed text is that of its lawful journal
 waves_lawful : (code : Compiled) (limits : Limits) (registers : List ℕ) (others : List (Shown Entry SeenEnd)) → All (λ s. IsArrangedText (design_of code) limits (length registers) (observer_of_registers registers) s.moves.items s.text.items s.end) others
-    → All (λ s. orders.IsWithinLimits limits s.moves.items) others → All (λ s. (w : Shown Entry End) → IsWaveOf s w → IsLawfulWave code limits registers w) others
+    → All (λ s. orders.IsWithinLimits limits s.moves.items) others → All (λ s. (w : Shown Entry End) → IsWaveOfText s w → IsLawfulWave code limits registers w) others
 waves_lawful code limits registers others sound within k d lt w (text, end, moves) =
     let s = get_or others k d in
     let arranged : IsArrangedText (design_of code) limits (length registers) (observer_of_registers registers) s.moves.items s.text.items s.end = sound k d lt in
@@ -102,19 +102,19 @@ none_below : (i : ℕ) → i < 0 → ⊥
 none_below i lt = omega (arith, lt)
 
 -- each of the waves is that of a lawful journal
-waves_sound : (code : Compiled) (limits : Limits) (registers : List ℕ) (before ss : List (Shown Entry End)) (others : List (Shown Entry SeenEnd)) → before ≡ [] → All (λ w. Contains before w ⊎ Any (λ o. IsWaveOf o w) others) ss
-    → All (λ s. (w : Shown Entry End) → IsWaveOf s w → IsLawfulWave code limits registers w) others → All (IsLawfulWave code limits registers) ss
+waves_sound : (code : Compiled) (limits : Limits) (registers : List ℕ) (before ss : List (Shown Entry End)) (others : List (Shown Entry SeenEnd)) → before ≡ [] → All (λ w. Contains before w ⊎ Any (λ o. IsWaveOfText o w) others) ss
+    → All (λ s. (w : Shown Entry End) → IsWaveOfText s w → IsLawfulWave code limits registers w) others → All (IsLawfulWave code limits registers) ss
 waves_sound code limits registers before ss others none each lawful k d lt = by_case (get_or ss k d) (each k d lt)
   where
-    by_case : (w : Shown Entry End) → Contains before w ⊎ Any (λ o. IsWaveOf o w) others → IsLawfulWave code limits registers w
+    by_case : (w : Shown Entry End) → Contains before w ⊎ Any (λ o. IsWaveOfText o w) others → IsLawfulWave code limits registers w
     by_case w (inl (i, within, at)) = absurd (none_below i (subst (λ (l : List (Shown Entry End)). i < length l) none within))
-    by_case w (inr (i, o, within, at, is)) = lawful i o within w (subst (λ (x : Shown Entry SeenEnd). IsWaveOf x w) (sym at) is)
+    by_case w (inr (i, o, within, at, is)) = lawful i o within w (subst (λ (x : Shown Entry SeenEnd). IsWaveOfText x w) (sym at) is)
 
 pub waves_found : {J E : Type 0} (items : J → List Entry) (code : Compiled) (search_options : SearchOptions) (registers : List ℕ) (observe : Observer) (seen_registers : ℕ) (s t : Option Stopped) (nodes : ℕ) (found told : Option J) (number : Option ℕ) (claim : Claim) (added : Result Bool E)
     (others : List (Shown Entry SeenEnd)) (before ss : List (Shown Entry End)) → observe ≡ observer_of_registers registers → seen_registers ≡ length registers → nodes ≤ search_options.max_states → claim ≡ wave_claim_of search_options t nodes number (length ss) → t ≡ search_stop_of s added → told ≡ unless_stopped t found
     → number ≡ option_map (λ j. length ss + 1) told → All (λ o. IsArrangedText (design_of code) (limits_in search_options) seen_registers observe o.moves.items o.text.items o.end) others → All (λ o. orders.IsWithinLimits (limits_in search_options) o.moves.items) others
     → (s ≡ None → AreAllObservedTexts (design_of code) (limits_in search_options) observe (λ text end. Any (λ x. IsArrangementOf seen_registers text end x.text.items x.end) others)) → IfSome found (λ j. orders.IsEndlessJournal (design_of code) (limits_in search_options) (items j))
-    → before ≡ [] → All (λ w. Contains before w ⊎ Any (λ o. IsWaveOf o w) others) ss
+    → before ≡ [] → All (λ w. Contains before w ⊎ Any (λ o. IsWaveOfText o w) others) ss
     → AllPairs AreDistinct others → (s ≡ Some stopped.Shown → length others ≡ texts_bound search_options.max_texts) → IfOk added (λ all. all ≡ false → length ss ≡ search_options.max_texts)
     → IfOk added (λ all. IsTrue all → All (λ o. IsShown ss (o.text.items ++ o.end.seen) o.end.end) others) → AllPairs AreDistinct ss → length ss ≤ search_options.max_texts
     → AreFoundWaves code search_options registers claim ss (option_map items told)
@@ -184,23 +184,23 @@ left_waves code asked search_options prefix registers claim waves endless said o
 -- waves of texts, one by one
 
 -- each wave is that of a text
-waves_from : (ss : List (Shown Entry SeenEnd)) (ws : List (Shown Entry End)) → AreWavesOf ss ws → All (λ w. Any (λ s. IsWaveOf s w) ss) ws
-waves_from [] [] are = All-nil (λ (w : Shown Entry End). Any (λ (s : Shown Entry SeenEnd). IsWaveOf s w) [])
+waves_from : (ss : List (Shown Entry SeenEnd)) (ws : List (Shown Entry End)) → AreWavesOf ss ws → All (λ w. Any (λ s. IsWaveOfText s w) ss) ws
+waves_from [] [] are = All-nil (λ (w : Shown Entry End). Any (λ (s : Shown Entry SeenEnd). IsWaveOfText s w) [])
 waves_from [] (w ∷ ws) are = absurd are
 waves_from (s ∷ ss) [] are = absurd are
 waves_from (s ∷ ss) (w ∷ ws) (one, more) =
-    All-cons (λ (x : Shown Entry End). Any (λ (y : Shown Entry SeenEnd). IsWaveOf y x) (s ∷ ss)) w ws (0, s, omega arith, refl, one) (λ k d lt. behind (get_or ws k d) (waves_from ss ws more k d lt))
+    All-cons (λ (x : Shown Entry End). Any (λ (y : Shown Entry SeenEnd). IsWaveOfText y x) (s ∷ ss)) w ws (0, s, omega arith, refl, one) (λ k d lt. behind (get_or ws k d) (waves_from ss ws more k d lt))
   where
-    behind : (x : Shown Entry End) → Any (λ y. IsWaveOf y x) ss → Any (λ y. IsWaveOf y x) (s ∷ ss)
+    behind : (x : Shown Entry End) → Any (λ y. IsWaveOfText y x) ss → Any (λ y. IsWaveOfText y x) (s ∷ ss)
     behind x (k, y, lt, at, is) = (suc k, y, omega (arith, lt), at, is)
 
 -- each of some waves was there before or is that of a text, where each is one of those or of the waves of texts
-pub waves_each : (old new ws : List (Shown Entry End)) (ss : List (Shown Entry SeenEnd)) → AreWavesOf ss ws → All (λ w. Contains old w ⊎ Contains ws w) new → All (λ w. Contains old w ⊎ Any (λ s. IsWaveOf s w) ss) new
+pub waves_each : (old new ws : List (Shown Entry End)) (ss : List (Shown Entry SeenEnd)) → AreWavesOf ss ws → All (λ w. Contains old w ⊎ Contains ws w) new → All (λ w. Contains old w ⊎ Any (λ s. IsWaveOfText s w) ss) new
 waves_each old new ws ss are each k d lt = by_case (get_or new k d) (each k d lt)
   where
-    by_case : (w : Shown Entry End) → Contains old w ⊎ Contains ws w → Contains old w ⊎ Any (λ s. IsWaveOf s w) ss
+    by_case : (w : Shown Entry End) → Contains old w ⊎ Contains ws w → Contains old w ⊎ Any (λ s. IsWaveOfText s w) ss
     by_case w (inl before) = inl before
-    by_case w (inr (i, within, at)) = inr (subst (λ (x : Shown Entry End). Any (λ s. IsWaveOf s x) ss) at (waves_from ss ws are i w within))
+    by_case w (inr (i, within, at)) = inr (subst (λ (x : Shown Entry End). Any (λ s. IsWaveOfText s x) ss) at (waves_from ss ws are i w within))
 
 -- what holds of waves holds of the wave of each text
 pub texts_of_waves : (Q : List ℕ → End → Type 0) (ss : List (Shown Entry SeenEnd)) (ws : List (Shown Entry End)) → AreWavesOf ss ws → All (λ w. Q w.text.items w.end) ws → All (λ s. Q (s.text.items ++ s.end.seen) s.end.end) ss

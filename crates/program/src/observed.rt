@@ -7,7 +7,7 @@ ghost use Rattle.std.specs.List.{All, Any, Contains};
 ghost use Rattle.explore.specs.Search.{IsShown};
 ghost use Rattle.observers.specs.Observers.{observer_of};
 ghost use Rattle.lawful.specs.ArrangedNodes.{registers_seen};
-ghost use Rattle.wavetexts.specs.Waves.{IsWaveOf};
+ghost use Rattle.wavetexts.specs.Waves.{IsWaveOfText};
 ghost use Rattle.arguments.specs.Options.{CanSearch};
 ghost use Rattle.arguments.specs.declared.observed.Observed.TheVariants.{Lines};
 ghost use Rattle.files.specs.Saved.{KeepsFiles, LeadsElsewhere, journal_path};
@@ -213,7 +213,7 @@ fn add_waves(
     requires few { AreFew all.old }
     ensures few { AreFew all.new }
     ensures most { all.new.most ≡ all.old.most }
-    ensures each { All (λ w. Contains all.old.shown.items w ⊎ Any (λ s. IsWaveOf s w) others.items) all.new.shown.items }
+    ensures each { All (λ w. Contains all.old.shown.items w ⊎ Any (λ s. IsWaveOfText s w) others.items) all.new.shown.items }
     ensures there { IfOk result (λ whole. IsTrue whole → All (λ s. IsShown all.new.shown.items (s.text.items ++ s.end.seen) s.end.end) others.items) }
     ensures full { IfOk result (λ whole. whole ≡ false → length all.new.shown.items ≡ all.new.most) }
 {

@@ -8,7 +8,7 @@ use Rattle.looseruns.specs.ObservedJournals.{SeenEnd}
 use Rattle.verdict.specs.declared.waves.WaveDescription.{WaveDescription}
 use Rattle.verdict.specs.WaveLines.{wave_text}
 use Rattle.wavetexts.specs.ToldWaves.{AreWavesTold, IsWaveTold, TellsOthers, waves_text}
-use Rattle.wavetexts.specs.Waves.{AreWavesOf, IsWaveOf}
+use Rattle.wavetexts.specs.Waves.{AreWavesOf, IsWaveOfText}
 
 -- the lines on one wave more
 text_more : (ts : List WaveDescription) (t : WaveDescription) → waves_text (ts ++ t ∷ []) ≡ waves_text ts ++ wave_text t
@@ -41,7 +41,7 @@ pub tells_none : (names : List (List ℕ)) (registers : List ℕ) (prefix : Opti
 tells_none names registers prefix first n old = record { told = []; are_told = tt; new_is = sym (append-nil old) }
 
 -- one wave more of a text
-pub waves_more : (ss : List (Shown Entry SeenEnd)) (ws : List (Shown Entry End)) (s : Shown Entry SeenEnd) (w : Shown Entry End) → AreWavesOf ss ws → IsWaveOf s w → AreWavesOf (ss ++ s ∷ []) (ws ++ w ∷ [])
+pub waves_more : (ss : List (Shown Entry SeenEnd)) (ws : List (Shown Entry End)) (s : Shown Entry SeenEnd) (w : Shown Entry End) → AreWavesOf ss ws → IsWaveOfText s w → AreWavesOf (ss ++ s ∷ []) (ws ++ w ∷ [])
 waves_more [] [] s w are one = (one, tt)
 waves_more [] (v ∷ ws) s w are one = absurd are
 waves_more (r ∷ ss) [] s w are one = absurd are

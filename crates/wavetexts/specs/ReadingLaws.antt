@@ -4,8 +4,8 @@ use Rattle.wavetexts.specs.AtTimes.{at_times}
 use Rattle.wavetexts.specs.Reading.{ReadText, read_on, tail_of, text_behind, unread, whole_text}
 
 -- to read two texts, one behind the other, is to read both as one
-abbrev pub ReadsOn : Type 0
-ReadsOn = (registers : ℕ) (t : ReadText) (one other : List ℕ) → read_on registers t (one ++ other) ≡ read_on registers (read_on registers t one) other
+abbrev pub ReadsOneBehindAnother : Type 0
+ReadsOneBehindAnother = (registers : ℕ) (t : ReadText) (one other : List ℕ) → read_on registers t (one ++ other) ≡ read_on registers (read_on registers t one) other
 
 -- what is in order for good stays before all that is read behind it
 abbrev pub StaysBefore : Type 0

@@ -11,12 +11,12 @@ abbrev pub wave_text_of : ℕ → List ℕ → SeenEnd → List ℕ
 wave_text_of registers text end = at_times registers (text ++ end.seen)
 
 -- this is the wave of an observed text in which the lines of each time are in order: it goes on with what is seen at its end, and has its journal
-abbrev pub IsWaveOf : Shown Entry SeenEnd → Shown Entry End → Type 0
-IsWaveOf s w = (w.text.items ≡ s.text.items ++ s.end.seen) × (w.end ≡ s.end.end) × (w.moves.items ≡ s.moves.items)
+abbrev pub IsWaveOfText : Shown Entry SeenEnd → Shown Entry End → Type 0
+IsWaveOfText s w = (w.text.items ≡ s.text.items ++ s.end.seen) × (w.end ≡ s.end.end) × (w.moves.items ≡ s.moves.items)
 
 -- these are the waves of such texts, one by one
 abbrev pub AreWavesOf : List (Shown Entry SeenEnd) → List (Shown Entry End) → Type 0
 AreWavesOf [] [] = Unit {0}
 AreWavesOf [] (w ∷ ws) = ⊥
 AreWavesOf (s ∷ ss) [] = ⊥
-AreWavesOf (s ∷ ss) (w ∷ ws) = IsWaveOf s w × AreWavesOf ss ws
+AreWavesOf (s ∷ ss) (w ∷ ws) = IsWaveOfText s w × AreWavesOf ss ws

@@ -1,7 +1,7 @@
 //! Waves: what runs have in common, besides their end, where the order of lines at one time doesn't count.
 
 ghost use Rattle.std.specs.Prelude.{◌≡◌, IfOk};
-ghost use Rattle.wavetexts.specs.Waves.{AreWavesOf, IsWaveOf};
+ghost use Rattle.wavetexts.specs.Waves.{AreWavesOf, IsWaveOfText};
 
 use explore::Shown;
 use looseruns::observed_end::ObservedEnd;
@@ -13,7 +13,7 @@ use std::alloc::{AllocError, Global};
 fn wave_of(
     shown: Shown<Entry, ObservedEnd>,
 ) -> Result<Shown<Entry, End>, AllocError>
-    ensures { IfOk result (IsWaveOf shown) }
+    ensures { IfOk result (IsWaveOfText shown) }
 {
     let Shown { text, end, moves } = shown;
     let ObservedEnd { end, seen } = end;

@@ -7,8 +7,7 @@ use crate::claims::{fail, holds};
 use design::{Design, RegId};
 use fixtures::entries::{A1, A5, T0, T1, T2, T3};
 use loose::transition::LooseTransition;
-use loosejournals::{LeadScope, ObservedRun, classes_of, observed_journal};
-use looseruns::observed_end::ObservedEnd;
+use loosejournals::{LeadScope, SeenJournal, classes_of, seen_journal};
 use model::end::{End, Limits};
 use model::entry::Entry;
 use observers::{Observation, Observing, observe_journal, push_seen};
@@ -194,15 +193,11 @@ const MOVES: &[LooseTransition] = &[
     LooseTransition::Process(2),
 ];
 
-// The journal that is found of that loose run, where this is seen of it.
-fn journal_of(rt: &impl Abort, alloc: Global, text: &[u8], seen: &[u8]) -> Option<Vec<Entry>> {
+// What is found of that loose run.
+fn seen_of(rt: &impl Abort, alloc: Global, end: End) -> Option<SeenJournal> {
     let design = design_of(rt, alloc, RACE);
     let classes = classes_of(alloc, &design).expect(rt, "memory");
     let observing = observing_of(rt, alloc, IN_ORDER.registers);
-    let end = ObservedEnd {
-        end: End::Quiet,
-        seen: Vec::from_slice(alloc, seen).expect(rt, "memory"),
-    };
     let scope = LeadScope {
         alloc,
         design: &design,
@@ -212,24 +207,18 @@ fn journal_of(rt: &impl Abort, alloc: Global, text: &[u8], seen: &[u8]) -> Optio
         },
         classes: &classes,
     };
-    let run = ObservedRun {
-        moves: MOVES,
-        text,
-        end: &end,
-    };
-    observed_journal(scope, &observing, run).expect(rt, "memory")
+    seen_journal(scope, &observing, MOVES, end).expect(rt, "memory")
 }
 
 #[test]
 fn the_journal_of_an_observed_run_is_found(rt: HostRuntime) {
-    let alloc = rt.alloc();
-    match journal_of(&rt, alloc, IN_ORDER.text, IN_ORDER.seen) {
-        Some(journal) => assert_entries(&rt, &journal, IN_ORDER.journal),
+    match seen_of(&rt, rt.alloc(), End::Quiet) {
+        Some(found) => {
+            assert_entries(&rt, &found.journal, IN_ORDER.journal);
+            holds(&rt, found.text.as_slice() == IN_ORDER.text, "another text");
+            holds(&rt, found.end.seen.as_slice() == IN_ORDER.seen, "another sight");
+            holds(&rt, found.end.end == End::Quiet, "another end");
+        }
         None => fail(&rt, "no journal"),
     }
-    // another text, and another end
-    let other = journal_of(&rt, alloc, b"go\n\x800\n0\n", IN_ORDER.seen);
-    holds(&rt, other.is_none(), "a journal of another text");
-    let other = journal_of(&rt, alloc, IN_ORDER.text, b"\x805\n0\n");
-    holds(&rt, other.is_none(), "a journal of another end");
 }

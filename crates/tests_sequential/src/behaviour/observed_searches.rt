@@ -1,4 +1,5 @@
-//! What is observed of all lawful orders of a small design: texts with what is seen of registers whenever time passes, derived by hand.
+//! What is observed of all lawful orders of small designs: texts with what is seen of registers whenever time passes, the lines of each time in the order
+//! of their bytes, derived by hand.
 
 use super::compare::assert_length;
 use super::held::design_of;
@@ -30,20 +31,20 @@ const ROWS: &[ObservedRow<'static>] = &[
     // the register of the race has either value when time passes, and keeps it
     ObservedRow {
         registers: &[0],
-        texts: &[b"\x800\n0\n1\n", b"\x800\n1\n1\n"],
-        ends: &[b"\x801\n0\n", b"\x801\n1\n"],
+        texts: &[b"\x800\n0\n", b"\x800\n1\n"],
+        ends: &[b"1\n\x801\n0\n", b"1\n\x801\n1\n"],
     },
     // the other one has one value
     ObservedRow {
         registers: &[1],
-        texts: &[b"\x800\n1\n1\n"],
-        ends: &[b"\x801\n1\n"],
+        texts: &[b"\x800\n1\n"],
+        ends: &[b"1\n\x801\n1\n"],
     },
     // the time alone is the same in all orders
     ObservedRow {
         registers: &[],
-        texts: &[b"\x800\n1\n"],
-        ends: &[b"\x801\n"],
+        texts: &[b"\x800\n"],
+        ends: &[b"1\n\x801\n"],
     },
 ];
 
@@ -79,7 +80,7 @@ fn found_of(
     observed_orders(alloc, design, limits, bounds, &observing, &Untold)
 }
 
-// As many texts are shown as the row has, each of them is one of the row's, and is quiet at the end. No two are the same: that is proved.
+// As many texts are shown as the row has, each of them is one of the row's, and is quiet at the end, where the lines of the last time stand. No two are the same: that is proved.
 fn assert_found(rt: &impl Abort, found: &Explored<Entry, ObservedEnd>, row: &ObservedRow<'_>) {
     holds(rt, found.stopped.is_none(), "stopped");
     assert_length(rt, found.shown.len(), row.texts.len());
@@ -88,6 +89,22 @@ fn assert_found(rt: &impl Abort, found: &Explored<Entry, ObservedEnd>, row: &Obs
         holds(rt, one.end.end == End::Quiet, "another end");
         holds(rt, is_among(&one.end.seen, row.ends), "another sight");
     }
+}
+
+/// Three processes print a line at one time, in six orders, and then one of them once more.
+const PRINTERS: &[u8] =
+    b"module t; initial begin $display(\"c\"); #1 $display(\"d\"); end initial $display(\"b\"); initial $display(\"a\"); endmodule";
+
+#[test]
+fn lines_of_one_time_have_no_order(rt: HostRuntime) {
+    let design = design_of(&rt, rt.alloc(), PRINTERS);
+    let found = found_of(&rt, rt.alloc(), &design, &[]);
+    let row = ObservedRow {
+        registers: &[],
+        texts: &[b"a\nb\nc\n\x800\n"],
+        ends: &[b"d\n\x801\n"],
+    };
+    assert_found(&rt, &found, &row);
 }
 
 #[test]

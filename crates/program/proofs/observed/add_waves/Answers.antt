@@ -6,7 +6,7 @@ use Rattle.model.specs.declared.end.End.{End}
 use Rattle.explore.specs.declared.Shown.{Shown}
 use Rattle.explore.specs.Search.{IsShown}
 use Rattle.looseruns.specs.ObservedJournals.{SeenEnd}
-use Rattle.wavetexts.specs.Waves.{IsWaveOf}
+use Rattle.wavetexts.specs.Waves.{IsWaveOfText}
 use Rattle.program.proofs.Knowing.{each_before}
 use Rattle.program.proofs.Searched.{if_ok}
 use Rattle.program.proofs.Waved.{texts_of_waves, waves_each}
@@ -16,7 +16,7 @@ pub returns-clause-each : goal.returns-clause-each
 returns-clause-each c = waves_each c.args.all.now.shown.items c.add_all.new.self.shown.items c.in_ok-waves.waves.items c.args.others.items c.in_ok-waves.ensures c.add_all.ensures.each
 
 pub returns-in_err-waves-clause-each : goal.returns-in_err-waves-clause-each
-returns-in_err-waves-clause-each c = each_before (λ (w : Shown Entry End). Any (λ (s : Shown Entry SeenEnd). IsWaveOf s w) c.args.others.items) c.args.all.now.shown.items
+returns-in_err-waves-clause-each c = each_before (λ (w : Shown Entry End). Any (λ (s : Shown Entry SeenEnd). IsWaveOfText s w) c.args.others.items) c.args.all.now.shown.items
 
 pub returns-clause-there : goal.returns-clause-there
 returns-clause-there c =
