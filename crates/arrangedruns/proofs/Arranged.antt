@@ -47,9 +47,12 @@ arranged_on registers class design observe e f g (transition ∷ more) sees i j 
     (λ x at_x later.
     let (y, at_y, (printed, changes, alike')) = alike_in_states_observed class design observe e.state f.state transition x sees i j alike at_x in
     let (k, goes, near, lines) =
-    arranged_on registers class design observe (joined e x) (joined f y) g more sees (observed_move_keeps_order class design observe e.state transition x i at_x) (observed_move_keeps_order class design observe f.state transition y j at_y) alike' later in
-    (k, then_some (λ z. observed_moves_from class design observe (joined f z) more) (observed_move class design observe f.state transition) y k at_y goes, near,
-    λ (h : read_on registers unread e.lines ≡ read_on registers unread f.lines). lines (same_read registers e.lines f.lines x.lines y.lines h printed)))
+    arranged_on registers class design observe (joined e x) (joined f y) g more sees (observed_move_keeps_order class design observe e.state transition x i at_x) (observed_move_keeps_order class design observe f.state transition y j at_y) alike' later in (
+      k,
+      then_some (λ z. observed_moves_from class design observe (joined f z) more) (observed_move class design observe f.state transition) y k at_y goes,
+      near,
+      λ (h : read_on registers unread e.lines ≡ read_on registers unread f.lines). lines (same_read registers e.lines f.lines x.lines y.lines h printed),
+    ))
 
 -- what was read of a run's text
 read_is : (registers : ℕ) (class : ℕ → ℕ) (design : Design) (limits : Limits) (observe : Observer) (i : List LooseTransition) (e : Effect) → ComesObserved class design limits observe i e → read_of_moves registers class design observe i ≡ read_on registers unread e.lines

@@ -13,7 +13,8 @@ use Rattle.looseruns.specs.ObservedJournals.{Observer, SeenEnd}
 use Rattle.looseruns.specs.ObservedRuns.{ComeToOneObservedNode, StandsObserved, observed_text_of_moves}
 use Rattle.observers.specs.declared.observing.Observing.{Observing}
 use Rattle.observers.specs.Observers.{observer_of}
-use Rattle.wavetexts.specs.Reading.{ReadText, read_on, tail_of, text_behind, text_with, unread}
+use Rattle.wavetexts.specs.Reading.{ReadText, read_on, tail_of, text_behind, text_with, unread, whole_text}
+use Rattle.wavetexts.specs.declared.reading.TextTail.{TextTail}
 use Rattle.wavetexts.proofs.ReadTexts.{reads_on, stays_before}
 use Rattle.arrangedruns.specs.ArrangedRuns.{ComeToOneArrangedNode, StandsArranged, arranged_end, read_of_moves}
 use Rattle.lawful.specs.ArrangedNodes.{IsNextArranged, IsPathArranged, registers_seen, searched_arranged, tail_at}
@@ -27,6 +28,17 @@ use Rattle.lawful.proofs.ObservedWays.{each_all, each_any}
 pub reads_behind : (registers : ℕ) (r t u : ReadText) (bytes : List ℕ) → t ≡ tail_of r → u ≡ read_on registers t bytes → read_on registers r bytes ≡ text_behind r.done u
 reads_behind registers r t u bytes rest is =
     (stays_before registers r bytes).0 ∙ ap (text_behind r.done) (ap (λ (v : ReadText). read_on registers v bytes) (sym rest) ∙ sym is)
+
+-- what a copy of the rest of a text, with bytes behind it, was read to
+pub copy_reads : (registers : ℕ) (tail : ReadText) (copy after : TextTail) (done given printed : List ℕ) → text_with [] copy ≡ tail → given ≡ printed → text_with done after ≡ read_on registers (text_with [] copy) given → text_with done after ≡ read_on registers tail printed
+copy_reads registers tail copy after done given printed same is read =
+    read ∙ (ap (λ (t : ReadText). read_on registers t given) same ∙ ap (read_on registers tail) is)
+
+-- and what it was read to, to its end
+pub rest_reads : (registers : ℕ) (t : ReadText) (after : TextTail) (done rest given seen : List ℕ) → text_with done after ≡ t → given ≡ seen → rest ≡ whole_text registers (read_on registers (text_with [] after) given)
+    → rest ≡ whole_text registers (read_on registers (tail_of t) seen)
+rest_reads registers t after done rest given seen same is whole =
+    whole ∙ (ap (λ (u : ReadText). whole_text registers (read_on registers (tail_of u) given)) same ∙ ap (λ l. whole_text registers (read_on registers (tail_of t) l)) is)
 
 -- another node with the same machine stands at an observed run, too
 pub same_machine_stands : (class : ℕ → ℕ) (code : Compiled) (limits : Limits) (observe : Observer) (node other : LooseNode) (run : List LooseTransition) → other.machine.value ≡ node.machine.value
@@ -87,9 +99,10 @@ module _ (class : ℕ → ℕ) (code : Compiled) (limits : Limits) (observing : 
   end_told text moves end last ended arranged there is_last is (told, same) =
       let u : ReadText = read_on (registers_seen observing) (tail_at node) ended.printed.items in
       let read = goes_on_reading moves ended.printed.items u (sym there ∙ sym told) refl in
-      let done : List ℕ = (read_of_moves (registers_seen observing) class (design_of code) (observer_of observing) run).done in
-      (ap (λ l. done ++ l) is.printed_is ∙ sym (ap (λ (t : ReadText). t.done) read),
-      is.end_is ∙ (ap (arranged_end (registers_seen observing) u) same ∙ (sym (ap (λ (t : ReadText). arranged_end (registers_seen observing) t end) read) ∙ sym is_last)))
+      let done : List ℕ = (read_of_moves (registers_seen observing) class (design_of code) (observer_of observing) run).done in (
+        ap (λ l. done ++ l) is.printed_is ∙ sym (ap (λ (t : ReadText). t.done) read),
+        is.end_is ∙ (ap (arranged_end (registers_seen observing) u) same ∙ (sym (ap (λ (t : ReadText). arranged_end (registers_seen observing) t end) read) ∙ sym is_last)),
+      )
 
   pub node_arranged_covered : (successors arranged : List (Successor LooseNode LooseTransition)) (ended paths : List (EndedPath LooseTransition SeenEnd)) → AreEach (IsNextArranged (registers_seen observing) (tail_at node)) successors arranged
       → AreEach (IsPathArranged (registers_seen observing) (tail_at node)) ended paths → IsCovered (searched_observed code class limits (observer_of observing)) successors ended run → IsCovered (searched_arranged code class limits observing) arranged paths run

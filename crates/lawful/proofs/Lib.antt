@@ -14,4 +14,5 @@ pub mod ObservedWays
 pub mod ObservedNodes
 pub mod ArrangedWays
 pub mod SeenAgain
+pub mod TailCodes
 pub mod ArrangedTexts

@@ -1,5 +1,5 @@
 -- A node that is made again before an observer by the transitions of a run stands at that run.
-use Rattle.std.proofs.Common.{◌≡◌, ℕ, List, [], ◌∷◌, ◌++◌, append_assoc, refl, sym, ap, ◌∙◌, subst}
+use Rattle.std.proofs.Common.{◌≡◌, ℕ, List, [], ◌∷◌, ◌++◌, append_assoc, Result, Ok, Err, OnOk, refl, sym, ap, ◌∙◌, subst}
 use Rattle.std.proofs.lemmas.List.{append-nil}
 use Rattle.std.proofs.lemmas.List.Elements.{All-head, All-nil}
 use Rattle.model.specs.declared.end.Limits.{Limits}
@@ -86,6 +86,17 @@ seen_more class observe old m new moves transition text told sees begun before o
       told_is = one.told_is ∙ ap (λ l. l ++ g.lines) before.told_is;
     }
 
+-- the lines that are left are told, too
+pub seen_told : (class : ℕ → ℕ) (observe : Observer) (old m new : MachineView) (moves : List LooseTransition) (told all : List ℕ) → new ≡ record m { lines = [] } → all ≡ told → HasSeenEach class observe old moves m told → HasSeenEach class observe old moves new all
+seen_told class observe old m new moves told all same is seen =
+    record {
+      effect = seen.effect;
+      goes = seen.goes;
+      state_is = ap state_at same ∙ seen.state_is;
+      code_is = ap (λ (p : MachineView). p.code) same ∙ seen.code_is;
+      told_is = is ∙ seen.told_is;
+    }
+
 -- the machine that is given back, once its lines are told
 pub seen_again : (class : ℕ → ℕ) (observe : Observer) (old from m last : MachineView) (moves : List LooseTransition) (told all : List ℕ) → state_at from ≡ state_at old → from.code ≡ old.code → HasSeenEach class observe from moves m told → all ≡ told → state_at last ≡ state_at m → last.code ≡ m.code → last.lines ≡ []
     → last.core.controls ≡ controls_of last.code → HasSeenAgain class observe old moves last all
@@ -103,6 +114,13 @@ seen_again class observe old from m last moves told all state code seen same sta
       silent_is = lines;
       controls = controls;
     }
+
+-- so it is where the transitions were taken, as a result says
+pub seen_after : {E : Type 0} (class : ℕ → ℕ) (observe : Observer) (old from m last : MachineView) (moves : List LooseTransition) (told : List ℕ) (r : Result (Unit {0}) E) → state_at from ≡ state_at old → from.code ≡ old.code → last ≡ m → last.core.controls ≡ controls_of last.code
+    → OnOk r (HasSeenEach class observe from moves m told) → OnOk r (m.lines ≡ []) → OnOk r (HasSeenAgain class observe old moves last told)
+seen_after class observe old from m last moves told (Ok u) state code same controls seen silent =
+    seen_again class observe old from m last moves told told state code seen refl (ap state_at same) (ap (λ (p : MachineView). p.code) same) (ap (λ (p : MachineView). p.lines) same ∙ silent) controls
+seen_after class observe old from m last moves told (Err e) state code same controls seen silent = tt
 
 pub made_seen_again : (class : ℕ → ℕ) (code : Compiled) (limits : Limits) (observing : Observing) (from node other : LooseNode) (run moves : List LooseTransition) → IsMadeAgain class observing from moves node
     → StandsArranged (HoldsEffect code) tail_at (registers_seen observing) class (design_of code) limits (observer_of observing) from run → StandsArranged (HoldsEffect code) tail_at (registers_seen observing) class (design_of code) limits (observer_of observing) other (run ++ moves)

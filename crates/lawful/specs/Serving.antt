@@ -56,11 +56,11 @@ loose_keyed code class limits a b i j key of_a of_b at_a at_b text =
 -- codes tell where they end
 
 -- the first byte, and those behind it
-first_byte : List ℕ → ℕ
+abbrev first_byte : List ℕ → ℕ
 first_byte [] = 0
 first_byte (b ∷ bytes) = b
 
-behind_byte : List ℕ → List ℕ
+abbrev behind_byte : List ℕ → List ℕ
 behind_byte [] = []
 behind_byte (b ∷ bytes) = bytes
 
@@ -92,10 +92,11 @@ tail_ends : (t u : ReadText) (xs ys : List ℕ) → t.done ≡ u.done → tail_c
 tail_ends t u xs ys done e =
     let (left, behind) = number_ends t.left u.left (bytes_code t.held ++ (bytes_code t.part ++ xs)) (bytes_code u.held ++ (bytes_code u.part ++ ys)) (sym (split_code t xs) ∙ (e ∙ split_code u ys)) in
     let (held, more) = bytes_end t.held u.held (bytes_code t.part ++ xs) (bytes_code u.part ++ ys) behind in
-    let (part, rest) = bytes_end t.part u.part xs ys more in
-    (ap (λ (n : ℕ). record t { left = n }) left ∙ (ap (λ (l : List ℕ). record t { left = u.left; held = l }) held
-    ∙ (ap (λ (l : List ℕ). record t { left = u.left; held = u.held; part = l }) part ∙ ap (λ (l : List ℕ). record u { done = l }) done)),
-    rest)
+    let (part, rest) = bytes_end t.part u.part xs ys more in (
+      ap (λ (n : ℕ). record t { left = n }) left ∙ (ap (λ (l : List ℕ). record t { left = u.left; held = l }) held
+          ∙ (ap (λ (l : List ℕ). record t { left = u.left; held = u.held; part = l }) part ∙ ap (λ (l : List ℕ). record u { done = l }) done)),
+      rest,
+    )
 
 -- the same of runs that an observer sees, with the lines of each time in order
 

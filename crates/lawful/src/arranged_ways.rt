@@ -33,12 +33,8 @@ fn arranged_next<'d>(
     ensures { IfOk result (IsNextArranged registers (text_with [] tail.now) next.entry) }
 {
     let mut text = tail.copied(alloc)?;
-    let Successor {
-        node,
-        printed,
-        moves,
-    } = next;
-    let done = text.read(alloc, registers, &printed)?;
+    let done = text.read(alloc, registers, &next.printed)?;
+    let Successor { node, moves, .. } = next;
     let LooseNode { machine, .. } = node;
     Ok(Successor {
         node: LooseNode {

@@ -149,9 +149,7 @@ impl<'a, 'd, T: RunTelling> Orders for LooseRuns<'a, 'd, T> {
         from: &LooseNode<'d>,
         moves: &[LooseTransition],
     ) -> Result<LooseNode<'d>, AllocError> {
-        let node = self
-            .telling
-            .again(alloc, room, from, &self.classes, moves)?;
+        let node = self.telling.again(alloc, room, from, &self.classes, moves)?;
         Ok(node)
     }
 

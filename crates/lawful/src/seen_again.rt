@@ -75,12 +75,14 @@ fn take_all_seen(
     requires order { IsInOrder (state_at machine.old) }
     requires silent { machine.old.lines ≡ [] }
     requires untold { text.old.items ≡ [] }
-    ensures { OnOk result (HasSeenEach (class_in classes.now) (observer_of observing.now) machine.old moves.now machine.new text.new.items) }
+    ensures seen { OnOk result (HasSeenEach (class_in classes.now) (observer_of observing.now) machine.old moves.now machine.new text.new.items) }
+    ensures silent { OnOk result (machine.new.lines ≡ []) }
 {
     for transition in moves {
         take_seen(machine, classes, observing, text, *transition)?;
     }
-    tell_lines(machine, text)
+    tell_lines(machine, text)?;
+    Ok(())
 }
 
 // Takes transitions with a log that the machine is lent, and tells what is printed and seen at them.
@@ -119,7 +121,14 @@ pub(crate) fn seen_again<'d>(
     let mut tail = from.tail.copied(alloc)?;
     let mut text = Vec::new(alloc);
     let mut machine = copy_of(alloc, &from.machine)?;
-    go_seen(&mut room.log, &mut machine, classes, observing, &mut text, moves)?;
+    go_seen(
+        &mut room.log,
+        &mut machine,
+        classes,
+        observing,
+        &mut text,
+        moves,
+    )?;
     let _done = tail.read(alloc, registers_of(observing), &text)?;
     Ok(LooseNode { machine, tail })
 }

@@ -28,17 +28,17 @@ pub struct SeenJournal {
 fn seen_of(
     scope: LeadScope<'_>,
     observing: &Observing,
-    record: RunRecord,
+    led: RunRecord,
 ) -> Result<Option<SeenJournal>, AllocError>
-    requires run { IsRun scope.design.now scope.limits record }
+    requires run { IsRun scope.design.now scope.limits led }
     ensures { IfOk result (λ found. IfSome found (IsSeenJournal scope.entry.design.now scope.entry.limits (observer_of observing.now))) }
 {
     // The read tells that the number fits its type.
     let _most = scope.limits.max_entries;
-    if !is_whole(&record) {
+    if !is_whole(&led) {
         return Ok(None);
     }
-    let RunRecord { journal, end, .. } = record;
+    let RunRecord { journal, end, .. } = led;
     match observe_journal(scope.alloc, scope.design, observing, &journal)? {
         Some(observation) => Ok(Some(seen_as(journal, end, observation))),
         None => Ok(None),
@@ -73,7 +73,7 @@ pub fn seen_journal(
     ensures { IfOk result (λ found. IfSome found (IsSeenJournal scope.entry.design.now scope.entry.limits (observer_of observing.now))) }
 {
     match led_record(scope, moves, end)? {
-        Some(record) => seen_of(scope, observing, record),
+        Some(led) => seen_of(scope, observing, led),
         None => Ok(None),
     }
 }

@@ -109,21 +109,18 @@ IsReadWhole registers bytes t = HasNoNewline t.part → t.done ++ arranged regis
 read_step : (registers : ℕ) (t : ReadText) (b : ℕ) (bytes : List ℕ) → ((u : ReadText) → IsReadWhole registers bytes u) → IsReadWhole registers (b ∷ bytes) t
 read_step registers t b bytes later none = by_byte (b == 10) refl
   where
-    line : List ℕ
-    line = t.part ++ b ∷ []
-
-    taken : ReadText
-    taken = line_taken registers line (record t { part = [] })
-
-    more : ReadText
-    more = record t { part = line }
-
     by_byte : (nl : Bool) → (b == 10) ≡ nl → t.done ++ arranged registers t.left t.held (lines_of (t.part ++ b ∷ bytes)) ≡ whole_text registers (read_on registers (byte_read registers t b) bytes)
     by_byte true is =
+        let line : List ℕ = t.part ++ b ∷ [] in
+        let taken : ReadText = line_taken registers line (record t { part = [] }) in
+        let more : ReadText = record t { part = line } in
         ap (λ (ls : List (List ℕ)). t.done ++ arranged registers t.left t.held ls) (line_whole t.part b bytes none is)
         ∙ (line_on registers line (lines_of bytes) (record t { part = [] })
         ∙ (later taken tt ∙ ap (λ (nl : Bool). whole_text registers (read_on registers (if nl then taken else more) bytes)) (sym is)))
     by_byte false is =
+        let line : List ℕ = t.part ++ b ∷ [] in
+        let taken : ReadText = line_taken registers line (record t { part = [] }) in
+        let more : ReadText = record t { part = line } in
         ap (λ (l : List ℕ). t.done ++ arranged registers t.left t.held (lines_of l)) (sym (append_assoc t.part (b ∷ []) bytes))
         ∙ (later more (one_more t.part b none is) ∙ ap (λ (nl : Bool). whole_text registers (read_on registers (if nl then taken else more) bytes)) (sym is))
 

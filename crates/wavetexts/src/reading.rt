@@ -64,12 +64,7 @@ impl TextTail {
     }
 
     // Puts the lines that are held, and then a line of what is seen, behind what is in order for good.
-    fn pass(
-        &mut self,
-        registers: usize,
-        line: &[u8],
-        done: &mut Vec<u8>,
-    ) -> Result<(), AllocError>
+    fn pass(&mut self, registers: usize, line: &[u8], done: &mut Vec<u8>) -> Result<(), AllocError>
         ensures held { OnOk result (self.new.held.items ≡ []) }
         ensures part { OnOk result (self.new.part.items ≡ self.old.part.items) }
         ensures done { OnOk result (done.new.items ≡ (done.old.items ++ self.old.held.items) ++ line.now) }
@@ -105,7 +100,7 @@ impl TextTail {
         registers: usize,
         done: &mut Vec<u8>,
     ) -> Result<(), AllocError>
-        ensures { OnOk result (text_with done.new.items self.new ≡ line_taken registers self.old.part.items (record text_with done.old.items self.old { part = [] })) }
+        ensures { OnOk result (text_with done.new.items self.new ≡ line_taken registers self.old.part.items (record (text_with done.old.items self.old) { part = [] })) }
     {
         let line = mem::replace(&mut self.part, Vec::new(alloc));
         self.take_line(alloc, registers, &line, done)

@@ -10,9 +10,7 @@ use model::entry::Entry;
 use std::alloc::{AllocError, Global};
 
 // The wave of an observed text, in which the lines of each time are in order, and its end, with its journal.
-fn wave_of(
-    shown: Shown<Entry, ObservedEnd>,
-) -> Result<Shown<Entry, End>, AllocError>
+fn wave_of(shown: Shown<Entry, ObservedEnd>) -> Result<Shown<Entry, End>, AllocError>
     ensures { IfOk result (IsWaveOfText shown) }
 {
     let Shown { text, end, moves } = shown;

@@ -216,7 +216,11 @@ fn the_journal_of_an_observed_run_is_found(rt: HostRuntime) {
         Some(found) => {
             assert_entries(&rt, &found.journal, IN_ORDER.journal);
             holds(&rt, found.text.as_slice() == IN_ORDER.text, "another text");
-            holds(&rt, found.end.seen.as_slice() == IN_ORDER.seen, "another sight");
+            holds(
+                &rt,
+                found.end.seen.as_slice() == IN_ORDER.seen,
+                "another sight",
+            );
             holds(&rt, found.end.end == End::Quiet, "another end");
         }
         None => fail(&rt, "no journal"),

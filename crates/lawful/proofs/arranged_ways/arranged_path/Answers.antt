@@ -1,0 +1,19 @@
+-- The same way, and at its end the rest.
+use Rattle.std.proofs.Common.{◌≡◌, [], List, ℕ, ap, refl}
+use Rattle.wavetexts.specs.Reading.{ReadText, read_on, text_with}
+use Rattle.lawful.proofs.ArrangedWays.{copy_reads, rest_reads}
+use Rattle.lawful.proofs.arranged_ways.arranged_path.Goals as goal
+
+pub returns : goal.returns
+returns c =
+    let registers = c.args.registers in
+    let tail = text_with [] c.args.tail.now in
+    let printed = c.args.ended.printed.items in
+    let read : text_with c.in_ok-done.done.items c.read.new.self ≡ read_on registers tail printed =
+    copy_reads registers tail c.in_ok-text.text c.read.new.self c.in_ok-done.done.items c.deref.result.now printed c.in_ok-text.ensures c.deref.ensures.value c.in_ok-done.ensures in
+    record {
+      moves_are = refl;
+      printed_is = ap (λ (t : ReadText). t.done) read;
+      end_is = ap (λ (l : List ℕ). record { end = c.args.ended.end.end; seen = l })
+          (rest_reads registers (read_on registers tail printed) c.read.new.self c.in_ok-done.done.items c.in_ok-seen.seen.items c.deref-2.result.now c.args.ended.end.seen read c.deref-2.ensures.value c.in_ok-seen.ensures);
+    }
