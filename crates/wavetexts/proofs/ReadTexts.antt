@@ -2,7 +2,7 @@
 use Rattle.std.proofs.Common.{◌≡◌, ◌∙◌, ap, refl, sym, ℕ, Bool, true, false, List, [], ◌∷◌, ◌++◌, append_assoc}
 use Rattle.std.specs.Prelude.{◌==◌, if◌then◌else◌}
 use Rattle.std.proofs.lemmas.List.{append-nil}
-use Rattle.wavetexts.specs.AtTimes.{arranged, at_times, is_printed, left_after, lines_of, placed_line, with_byte}
+use Rattle.wavetexts.specs.AtTimes.{arranged, is_printed, left_after, lines_of, placed_line, with_byte}
 use Rattle.wavetexts.specs.Reading.{ReadText, byte_read, last_taken, line_taken, read_on, tail_of, text_behind, unread, whole_text}
 use Rattle.wavetexts.specs.ReadingLaws.{ReadInTwo, ReadsOneBehindAnother, ReadTextIsArranged, StaysBefore}
 use Rattle.wavetexts.proofs.TextLines.{with_newline, with_other}

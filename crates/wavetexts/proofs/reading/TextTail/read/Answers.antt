@@ -1,7 +1,7 @@
 -- One byte more was read.
-use Rattle.std.proofs.Common.{◌≡◌, ◌∙◌, List, [], ap, get_or, refl, sym, subst, take, arith}
+use Rattle.std.proofs.Common.{◌∙◌, ◌+◌, [], ap, get_or, take, arith}
 use Rattle.std.proofs.lemmas.List.{take_all, take_more}
-use Rattle.wavetexts.specs.Reading.{ReadText, byte_read, read_on, text_with}
+use Rattle.wavetexts.specs.Reading.{read_on, text_with}
 use Rattle.wavetexts.proofs.ReadTexts.{reads_one}
 use Rattle.wavetexts.proofs.reading.TextTail.read.Goals as goal
 
