@@ -2,8 +2,8 @@
 use Rattle.std.proofs.Common.{◌≡◌, ℕ, zero, suc, ◌<◌, ◌≤◌, Bool, true, false, List, [], ◌∷◌, ◌++◌, ◌⊎◌, inl, inr, ⊎_elim, map, length, drop, refl, sym, ap, ◌∙◌, ◌==◌, arith, get_or}
 use Rattle.std.specs.Prelude.{◌||◌, not, ◌&&◌, slice_index_or}
 use Rattle.std.proofs.lemmas.Bool.{eqb-true}
-use Rattle.model.specs.Syntax.{Expression, Register, Select, Literal, Concat, Unary, Binary, Conditional, Expressions, Nothing, Also, registers_of, all_registers_of}
-use Rattle.model.specs.Design.{Process, Statement, Empty, Assign, AssignAfter, AssignLater, Delay, Await, If, While, Print, Finish, Statements, End, Then}
+use Rattle.model.specs.Syntax.{Expression, Register, Select, Literal, Concat, Unary, Binary, Conditional, Extend, Expressions, Nothing, Also, registers_of, all_registers_of}
+use Rattle.model.specs.Design.{Process, Statement, Empty, Assign, AssignAfter, AssignLater, Now, Delay, Await, If, While, Print, Finish, Statements, End, Then}
 use Rattle.model.specs.Turns.{contains}
 use Rattle.model.specs.TurnCases.{all_but}
 use Rattle.design.specs.declared.tree.Process as trees
@@ -40,6 +40,7 @@ mutual
   expression_bound widths (Literal v) r sound h = cc
   expression_bound widths (Concat es) r sound h = expressions_bound widths es r sound.2 h
   expression_bound widths (Unary op e) r sound h = expression_bound widths e r sound h
+  expression_bound widths (Extend by size e) r sound h = expression_bound widths e r sound.2 h
   expression_bound widths (Binary op e f) r sound h =
       ⊎_elim (λ there. expression_bound widths e r sound.0 there) (λ there. expression_bound widths f r sound.1 there) (in_either (registers_of e) (registers_of f) r h)
   expression_bound widths (Conditional c e f) r sound h =
@@ -60,6 +61,7 @@ mutual
   written_one_bound widths (Assign q e) r sound h = one_of q r (length widths) sound.0 h
   written_one_bound widths (AssignAfter q d e) r sound h = cc
   written_one_bound widths (AssignLater q d e) r sound h = cc
+  written_one_bound widths (Now q) r sound h = cc
   written_one_bound widths (Delay d body) r sound h = cc
   written_one_bound widths (Await ts body) r sound h = cc
   written_one_bound widths (If c body otherwise) r sound h =
@@ -82,6 +84,7 @@ mutual
       ⊎_elim (λ there. expression_bound widths e r sound.1 there) (λ there. rest (both (not (q == r)) (contains later r) (sym (all_but_is q r later) ∙ there)).1) (in_either (registers_of e) (all_but q later) r h)
   reads_one_bound widths (AssignAfter q d e) later r sound rest h = rest h
   reads_one_bound widths (AssignLater q d e) later r sound rest h = rest h
+  reads_one_bound widths (Now q) later r sound rest h = rest h
   reads_one_bound widths (Delay d body) later r sound rest h = rest h
   reads_one_bound widths (Await ts body) later r sound rest h = rest h
   reads_one_bound widths (If c body otherwise) later r sound rest h =

@@ -32,6 +32,7 @@ fn is_plain_statement(statement: &Statement) -> bool
         Statement::If(_, body, otherwise) => is_plain(body) && is_plain(otherwise),
         Statement::AssignAfter(_, _, _) => false,
         Statement::AssignLater(_, _, _) => false,
+        Statement::Now(_) => false,
         Statement::Delay(_, _) => false,
         Statement::Await(_, _) => false,
         Statement::While(_, _) => false,
@@ -107,6 +108,7 @@ fn flow_before_one(statement: &Statement, register: RegId, behind: DataFlow) -> 
         Statement::Empty
         | Statement::AssignAfter(_, _, _)
         | Statement::AssignLater(_, _, _)
+        | Statement::Now(_)
         | Statement::Delay(_, _)
         | Statement::Await(_, _)
         | Statement::While(_, _)

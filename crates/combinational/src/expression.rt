@@ -18,6 +18,7 @@ pub(crate) fn reads(expression: &Expression, register: RegId) -> bool
         Expression::Literal(_) => false,
         Expression::Concat(parts) => any_reads(parts, register),
         Expression::Unary(_, operand) => reads(operand, register),
+        Expression::Extend(_, _, operand) => reads(operand, register),
         Expression::Binary(_, left, right) => reads(left, register) || reads(right, register),
         Expression::Conditional(condition, first, second) => {
             reads(condition, register) || reads(first, register) || reads(second, register)

@@ -1,8 +1,10 @@
 -- The code of statements begins with what was there, and has a node more for each statement.
 use Rattle.std.proofs.Common.{◌≡◌, ℕ, ◌+◌, List, [], ◌∷◌, ◌++◌, length, sym, ap, ◌∙◌, arith, length-append}
+use Rattle.std.specs.Prelude.{slice_index}
 use Rattle.model.specs.declared.tree.Task.{Task}
 use Rattle.model.specs.Syntax.{Expression, Expressions}
-use Rattle.model.specs.Design.{Statement, Empty, Assign, AssignAfter, AssignLater, Delay, Await, If, While, Print, Finish, Statements, End, Then, Trigger, Piece, inside, all_of, size}
+use Rattle.model.specs.Design.{Statement, Empty, Assign, AssignAfter, AssignLater, Now, Delay, Await, If, While, Print, Finish, Statements, End, Then, Trigger, inside, all_of, size}
+use Rattle.model.specs.Syntax.{Piece}
 use Rattle.design.specs.declared.code.Node.{Node}
 use Rattle.design.specs.declared.code.Node.TheVariants as node
 use Rattle.design.specs.Generate.{own_code, assigned_code}
@@ -37,6 +39,7 @@ mutual
   grows_statement widths next e (Assign r x) = grows_valued e (assigned_code widths r x) (λ s. node.Assign r s next)
   grows_statement widths next e (AssignAfter r d x) = grows_valued e (assigned_code widths r x) (λ s. node.AssignAfter r d s next)
   grows_statement widths next e (AssignLater r d x) = grows_valued e (assigned_code widths r x) (λ s. node.AssignLater r d s next)
+  grows_statement widths next e (Now r) = grows_node e (node.Now r (slice_index widths r) next)
   grows_statement widths next e (Delay d body) =
       let e1 = delay_node e d body next in
       grows_both e e1 (with_all widths next e1 body) (grows_node e (node.Delay d (first_of (length e.nodes + 1) body next))) (grows_all widths next e1 body)
@@ -81,6 +84,7 @@ mutual
   length_statement widths next e (Assign r x) = length_leaf e.nodes _
   length_statement widths next e (AssignAfter r d x) = length_leaf e.nodes _
   length_statement widths next e (AssignLater r d x) = length_leaf e.nodes _
+  length_statement widths next e (Now r) = length_leaf e.nodes _
   length_statement widths next e (Delay d body) =
       length_all widths next (delay_node e d body next) body ∙ ap (λ k. k + size body) (length-append e.nodes _)
   length_statement widths next e (Await triggers body) =

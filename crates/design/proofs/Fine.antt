@@ -2,24 +2,23 @@
 use Rattle.std.proofs.Common.{◌≡◌, ℕ, zero, suc, ◌+◌, ◌<◌, ◌≤◌, ◌⊎◌, ⊎_elim, inl, inr, List, [], ◌∷◌, ◌++◌, length, Some, refl, sym, ap, ◌∙◌, subst, arith, append_assoc}
 use Rattle.std.proofs.lemmas.List.{append-nil}
 use Rattle.std.specs.Prelude.{slice_get}
-use Rattle.logic4.specs.Display as display
 use Rattle.model.specs.Syntax.{Expressions, Nothing, Also, registers_of}
 use Rattle.model.specs.Elaboration.{argument_count}
-use Rattle.model.specs.Design.{Piece, Byte, Argument, first_place}
+use Rattle.model.specs.Design.{first_place}
+use Rattle.model.specs.Syntax.{Piece, Byte, Argument}
 use Rattle.model.specs.Expressions.{own_value}
 use Rattle.design.specs.declared.code.Node.{Node}
 use Rattle.design.specs.declared.code.Op.{Op}
 use Rattle.design.specs.declared.code.LinePiece.{LinePiece}
 use Rattle.design.specs.declared.code.LinePiece.TheVariants as shown
 use Rattle.design.specs.declared.code.Span.{Span}
-use Rattle.design.specs.DesignTrees.{conversion_of}
 use Rattle.design.specs.Sound.{AreSoundExpressions, how_many}
 use Rattle.design.specs.ExpressionSteps.{Computes, span_of}
 use Rattle.design.specs.CodePlaces.{remainder_at}
 use Rattle.design.specs.Compiled.{Compiled, design_of}
 use Rattle.design.specs.Meaning.{IsFine, IsLine}
 use Rattle.design.specs.Generate.{own_code}
-use Rattle.design.specs.Emit.{Emitted, with_node, with_ops, with_shown, with_valued, with_line_code, conversion_from, span_behind}
+use Rattle.design.specs.Emit.{Emitted, with_node, with_ops, with_shown, with_valued, with_line_code, span_behind}
 use Rattle.design.proofs.Generated.{own_computes}
 use Rattle.design.proofs.Growing.{Begins, begins_both, Grows, grows_line, piece_there, element_there}
 use Rattle.design.proofs.Emitted.{length_node}
@@ -61,11 +60,6 @@ pub computes_there : (code : Compiled) (e : Emitted) (ops : List Op) (made : Spa
 computes_there code e ops made value reads grown h =
     subst (λ l. Computes l value reads) (sym (piece_there e.ops ops code.ops grown.ops)) h
 
-back_and_forth : (c : _) → conversion_of (conversion_from c) ≡ c
-back_and_forth display.Binary = refl
-back_and_forth display.Hex = refl
-back_and_forth display.Decimal = refl
-
 -- what a format adds to the pieces of lines
 pub line_there : (code : Compiled) (e : Emitted) (ps : List Piece) (es : Expressions ℕ) → argument_count ps ≡ how_many es → AreSoundExpressions code.widths es → Begins (with_line_code code.widths e ps es).ops code.ops → (line : List LinePiece) × (((with_line_code code.widths e ps es).shown ≡ e.shown ++ line) × IsLine code.widths code.ops line ps es)
 line_there code e [] Nothing count sound grown = ([], (sym (append-nil e.shown), tt))
@@ -77,9 +71,9 @@ line_there code e (Byte b ∷ ps) es count sound grown =
 line_there code e (Argument c ∷ ps) Nothing count sound grown = absurd (omega arith)
 line_there code e (Argument c ∷ ps) (Also x es) count (sound, others) grown =
     let ops = own_code code.widths x in
-    let s = shown.Value (conversion_from c) (span_behind e.ops ops) in
+    let s = shown.Value c (span_behind e.ops ops) in
     let e1 = with_shown (with_ops e ops) s in
     let (line, (there, fine)) = line_there code e1 ps es (omega arith) others grown in
     let begun : Begins (e.ops ++ ops) code.ops = begins_both e1.ops (with_line_code code.widths e1 ps es).ops code.ops (grows_line code.widths e1 ps es).ops grown in
     let computes = subst (λ l. Computes l (λ values. own_value code.widths values x) (registers_of x)) (sym (piece_there e.ops ops code.ops begun)) (own_computes code.widths x sound) in
-    (s ∷ line, (there ∙ append_assoc e.shown (s ∷ []) line, (back_and_forth c, computes, fine)))
+    (s ∷ line, (there ∙ append_assoc e.shown (s ∷ []) line, (refl, computes, fine)))

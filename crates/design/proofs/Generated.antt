@@ -17,7 +17,7 @@ use Rattle.model.specs.Syntax.{Expression, Expressions, registers_of, all_regist
 use Rattle.model.specs.Expressions as size
 use Rattle.model.specs.Expressions.{Store, Sizing, sizing_of, left_size, right_size, operand_size, own_size, total_size, unary_value, binary_value, eval, joined, own_value, assigned_value}
 use Rattle.design.specs.declared.code.Op.{Op}
-use Rattle.design.specs.declared.code.Op.TheVariants.{Unary, Binary, Join, Resize, Choose}
+use Rattle.design.specs.declared.code.Op.TheVariants.{Unary, Binary, Join, Resize, Extend, Choose}
 use Rattle.design.specs.Operate.{sized, combined, joined_two}
 use Rattle.design.specs.Sound.{IsSoundExpression, AreSoundExpressions}
 use Rattle.design.specs.ExpressionSteps.{topmost, act, run_ops, reads_of, all_reads, Computes}
@@ -58,6 +58,8 @@ binary_length binary.Less asked l r v w a b = length-resize asked _
 binary_length binary.LessEqual asked l r v w a b = length-resize asked _
 binary_length binary.Greater asked l r v w a b = length-resize asked _
 binary_length binary.GreaterEqual asked l r v w a b = length-resize asked _
+binary_length binary.SignedLess asked l r v w a b = length-resize asked _
+binary_length binary.SignedLessEqual asked l r v w a b = length-resize asked _
 binary_length binary.ShiftLeft asked l r v w a b = length-shl_vector v w ∙ a
 binary_length binary.ShiftRight asked l r v w a b = length-shr_vector v w ∙ a
 binary_length binary.Add asked l r v w a b = length-where_known v w _ ∙ a
@@ -79,6 +81,7 @@ length_eval widths values asked (tree.Binary op e f) =
     binary_length op asked (own_size widths e) (own_size widths f) _ _ (length_eval widths values (left_size (sizing_of op) asked (own_size widths e) (own_size widths f)) e) (length_eval widths values (right_size (sizing_of op) asked (own_size widths e) (own_size widths f)) f)
 length_eval widths values asked (tree.Conditional c e f) =
     conditional_length (truth (eval widths values (own_size widths c) c)) asked _ _ (length_eval widths values asked e) (length_eval widths values asked f)
+length_eval widths values asked (tree.Extend by n e) = length-resize asked _
 
 length_joined : (widths : List ℕ) (values : Store) (es : Expressions ℕ) → length (joined widths values es) ≡ total_size widths es
 length_joined widths values tree.Nothing = refl
@@ -120,6 +123,7 @@ direct_runs widths values op l asked r (tree.Concat parts) x st = refl
 direct_runs widths values op l asked r (tree.Unary unary e) x st = refl
 direct_runs widths values op l asked r (tree.Binary binary e f) x st = refl
 direct_runs widths values op l asked r (tree.Conditional c e f) x st = refl
+direct_runs widths values op l asked r (tree.Extend by n e) x st = refl
 
 -- and it reads what that reads
 direct_reads : (widths : List ℕ) (op : BinaryOperator) (l asked r : ℕ) (f : Expression ℕ) → all_reads (step_or (direct_step op l asked r f) (expression_code widths r f ++ Binary op l asked ∷ [])) ≡ all_reads (expression_code widths r f ++ Binary op l asked ∷ [])
@@ -130,6 +134,7 @@ direct_reads widths op l asked r (tree.Concat parts) = refl
 direct_reads widths op l asked r (tree.Unary unary e) = refl
 direct_reads widths op l asked r (tree.Binary binary e f) = refl
 direct_reads widths op l asked r (tree.Conditional c e f) = refl
+direct_reads widths op l asked r (tree.Extend by n e) = refl
 
 mutual
   -- the code of an expression puts its value on the stack
@@ -177,6 +182,9 @@ mutual
       ∙ ap (run_ops values last) (run_expression widths values asked f (x ∷ t ∷ st) k)
       ∙ ap (λ z. conditional (truth t) z (resize asked y) ∷ st) (resize_same asked x (length_eval widths values asked e))
       ∙ ap (λ z. conditional (truth t) x z ∷ st) (resize_same asked y (length_eval widths values asked f))
+  run_expression widths values asked (tree.Extend by n e) st (some, within, h) =
+      run_ops-append values (expression_code widths (own_size widths e) e) (Extend by n asked ∷ []) st
+      ∙ ap (run_ops values (Extend by n asked ∷ [])) (run_expression widths values (own_size widths e) e st h)
 
   -- further parts are joined to the vector before them
   run_parts : (widths : List ℕ) (values : Store) (es : Expressions ℕ) (v : Vector) (st : List Vector) → length v + total_size widths es ≤ greatest_width → AreSoundExpressions widths es → run_ops values (parts_code widths false es) (v ∷ st) ≡ concat_vector v (joined widths values es) ∷ st
@@ -222,6 +230,8 @@ mutual
       reads_both (expression_code widths (own_size widths c) c) _ _ _ (reads_expression widths (own_size widths c) c)
       (reads_both (expression_code widths asked e) _ _ _ (reads_expression widths asked e)
       (reads_last (expression_code widths asked f) (Choose asked) _ refl (reads_expression widths asked f)))
+  reads_expression widths asked (tree.Extend by n e) =
+      reads_last (expression_code widths (own_size widths e) e) (Extend by n asked) _ refl (reads_expression widths (own_size widths e) e)
 
   reads_parts : (widths : List ℕ) (is_first : Bool) (es : Expressions ℕ) → all_reads (parts_code widths is_first es) ≡ all_registers_of es
   reads_parts widths is_first tree.Nothing = refl

@@ -3,7 +3,8 @@ use Rattle.std.proofs.Common.{◌≡◌, ℕ, ◌-◌, ◌≤◌, ◌&&◌, if�
 use Rattle.std.proofs.lemmas.List.{append-nil}
 use Rattle.std.specs.Prelude.{slice_get, slice_range}
 use Rattle.model.specs.Syntax.{Expressions, Nothing, Also}
-use Rattle.model.specs.Design.{Trigger, Piece, Byte, Argument}
+use Rattle.model.specs.Design.{Trigger}
+use Rattle.model.specs.Syntax.{Piece, Byte, Argument}
 use Rattle.design.specs.declared.code.Node.{Node}
 use Rattle.design.specs.declared.code.Op.{Op}
 use Rattle.design.specs.declared.code.LinePiece.{LinePiece}
@@ -11,7 +12,7 @@ use Rattle.design.specs.declared.code.LinePiece.TheVariants as shown
 use Rattle.design.specs.declared.code.Span.{Span}
 use Rattle.design.specs.ExpressionSteps.{span_of}
 use Rattle.design.specs.Generate.{own_code}
-use Rattle.design.specs.Emit.{Emitted, with_node, with_ops, with_shown, with_control, with_valued, with_line_code, conversion_from, span_behind}
+use Rattle.design.specs.Emit.{Emitted, with_node, with_ops, with_shown, with_control, with_valued, with_line_code, span_behind}
 use Rattle.design.proofs.Places.{drop-length-append, sits_there}
 
 -- a list begins with another
@@ -94,7 +95,7 @@ grows_line widths e (Byte b ∷ ps) es =
 grows_line widths e (Argument c ∷ ps) Nothing = grows_same e
 grows_line widths e (Argument c ∷ ps) (Also x es) =
     let e1 = with_ops e (own_code widths x) in
-    let s = shown.Value (conversion_from c) (span_behind e.ops (own_code widths x)) in
+    let s = shown.Value c (span_behind e.ops (own_code widths x)) in
     let e2 = with_shown e1 s in
     grows_both e e1 (with_line_code widths e2 ps es) (grows_ops e (own_code widths x))
     (grows_both e1 e2 (with_line_code widths e2 ps es) (grows_shown e1 s) (grows_line widths e2 ps es))
@@ -104,4 +105,4 @@ line_nodes widths e [] es = refl
 line_nodes widths e (Byte b ∷ ps) es = line_nodes widths (with_shown e (shown.Byte b)) ps es
 line_nodes widths e (Argument c ∷ ps) Nothing = refl
 line_nodes widths e (Argument c ∷ ps) (Also x es) =
-    line_nodes widths (with_shown (with_ops e (own_code widths x)) (shown.Value (conversion_from c) (span_behind e.ops (own_code widths x)))) ps es
+    line_nodes widths (with_shown (with_ops e (own_code widths x)) (shown.Value c (span_behind e.ops (own_code widths x)))) ps es

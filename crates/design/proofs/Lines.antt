@@ -48,6 +48,7 @@ whole_of place tree.Empty = refl
 whole_of place (tree.Assign r e) = refl
 whole_of place (tree.AssignAfter r d e) = refl
 whole_of place (tree.AssignLater r d e) = refl
+whole_of place (tree.Now r) = refl
 whole_of place (tree.Delay d body) = refl
 whole_of place (tree.Await triggers body) = refl
 whole_of place (tree.If c body otherwise) = refl

@@ -3,7 +3,7 @@ use Rattle.std.proofs.Common.{◌≡◌, ℕ, ◌+◌, List, [], ◌∷◌, ◌+
 use Rattle.std.proofs.Math.Seq.{set-append_seam}
 use Rattle.std.specs.Prelude.{slice_set}
 use Rattle.model.specs.Syntax.{Expression}
-use Rattle.model.specs.Design.{Process, Statement, Empty, Assign, AssignAfter, AssignLater, Delay, Await, If, While, Print, Finish, Statements, End, Then, inside, all_of, size}
+use Rattle.model.specs.Design.{Process, Statement, Empty, Assign, AssignAfter, AssignLater, Now, Delay, Await, If, While, Print, Finish, Statements, End, Then, inside, all_of, size}
 use Rattle.design.specs.declared.extents.Extent.{Extent}
 use Rattle.design.specs.Extents.{body_extent, extent_of, extents, extents_inside, all_extents, AreMeasured, AreMeasuredInside, IsMeasured}
 use Rattle.design.proofs.Places.{Sits, sits_there, sits_left, sits_right, sits_behind}
@@ -19,6 +19,7 @@ mutual
   length_extents_inside place (Assign r e) = refl
   length_extents_inside place (AssignAfter r d e) = refl
   length_extents_inside place (AssignLater r d e) = refl
+  length_extents_inside place (Now r) = refl
   length_extents_inside place (Delay d body) = length_extents (place + 1) body
   length_extents_inside place (Await triggers body) = length_extents (place + 1) body
   length_extents_inside place (If c body otherwise) =
@@ -99,6 +100,7 @@ mutual
   measured_inside table place (Assign r e) h = tt
   measured_inside table place (AssignAfter r d e) h = tt
   measured_inside table place (AssignLater r d e) h = tt
+  measured_inside table place (Now r) h = tt
   measured_inside table place (Delay d body) h = measured_all table (place + 1) body h
   measured_inside table place (Await triggers body) h = measured_all table (place + 1) body h
   measured_inside table place (If c body otherwise) h = (

@@ -1,10 +1,11 @@
 -- The nodes of statements are fine, one after another.
-use Rattle.std.proofs.Common.{◌≡◌, ℕ, ◌+◌, ◌≤◌, inl, inr, ◌∷◌, ◌++◌, List, length, Some, sym, ap, ◌∙◌, subst, arith, length-append}
-use Rattle.std.specs.Prelude.{slice_get}
+use Rattle.std.proofs.Common.{◌≡◌, ℕ, ◌+◌, ◌≤◌, inl, inr, ◌∷◌, ◌++◌, List, length, Some, refl, sym, ap, ◌∙◌, subst, arith, length-append}
+use Rattle.std.specs.Prelude.{slice_get, slice_index}
 use Rattle.model.specs.declared.tree.Task.{Task}
 use Rattle.model.specs.Syntax.{Expressions, registers_of}
 use Rattle.model.specs.Elaboration.{argument_count}
-use Rattle.model.specs.Design.{Statement, Empty, Assign, AssignAfter, AssignLater, Delay, Await, If, While, Print, Finish, Statements, End, Then, Piece, inside, all_of, size, statement_at, first_place}
+use Rattle.model.specs.Design.{Statement, Empty, Assign, AssignAfter, AssignLater, Now, Delay, Await, If, While, Print, Finish, Statements, End, Then, inside, all_of, size, statement_at, first_place}
+use Rattle.model.specs.Syntax.{Piece}
 use Rattle.model.specs.Expressions.{own_value, assigned_value}
 use Rattle.model.specs.Turns.{Remainder, At, parts}
 use Rattle.design.specs.declared.code.Node.TheVariants as node
@@ -105,6 +106,8 @@ mutual
           ),
         ),
       ) done
+  done_statement code p next e (Now r) rest sound at left within lo hi to grown done =
+      done_node code p e (node.Now r (slice_index code.widths r) next) grown (length e.nodes, (next_left code p (length e.nodes) next rest left to, at, refl, sound, to.own)) done
   done_statement code p next e (Delay d body) rest sound at left within lo hi to grown done =
       let n = length e.nodes in
       let e1 = delay_node e d body next in

@@ -4,7 +4,7 @@ use Rattle.std.specs.Prelude.{slice_index_or}
 use Rattle.std.proofs.lemmas.Bool.{cases_lt}
 use Rattle.std.proofs.lemmas.List.{get_or_past}
 use Rattle.logic4.specs.Vector.{Vector}
-use Rattle.model.specs.Design.{Design, Process, Statement, Empty, Assign, AssignAfter, AssignLater, Delay, Await, If, While, Print, Finish, Statements, End, Then, inside, all_of, size, all_statements, statement_at}
+use Rattle.model.specs.Design.{Design, Process, Statement, Empty, Assign, AssignAfter, AssignLater, Now, Delay, Await, If, While, Print, Finish, Statements, End, Then, inside, all_of, size, all_statements, statement_at}
 use Rattle.model.specs.Turns.{Remainder, At, Set, parts}
 use Rattle.design.specs.declared.code.ProcState.{ProcState}
 use Rattle.design.specs.CodePlaces.{remainders, remainders_inside, all_remainders, remainder_at, statement_count, end_place, IsPlaceOf}
@@ -36,6 +36,7 @@ mutual
   numbered_inside place (Assign r e) rest = tt
   numbered_inside place (AssignAfter r d e) rest = tt
   numbered_inside place (AssignLater r d e) rest = tt
+  numbered_inside place (Now r) rest = tt
   numbered_inside place (Delay d body) rest = numbered_all (place + 1) body rest
   numbered_inside place (Await triggers body) rest = numbered_all (place + 1) body rest
   numbered_inside place (If c body otherwise) rest =

@@ -1,6 +1,6 @@
 -- Statements and what is left at their places.
 use Rattle.std.proofs.Common.{◌≡◌, ℕ, ◌+◌, ◌≤◌, inl, List, [], ◌∷◌, ◌++◌, length, refl, ap, arith, length-append}
-use Rattle.model.specs.Design.{Design, Statement, Empty, Assign, AssignAfter, AssignLater, Delay, Await, If, While, Print, Finish, Statements, End, Then, inside, all_of, size, all_statements, statement_at, first_place}
+use Rattle.model.specs.Design.{Design, Statement, Empty, Assign, AssignAfter, AssignLater, Now, Delay, Await, If, While, Print, Finish, Statements, End, Then, inside, all_of, size, all_statements, statement_at, first_place}
 use Rattle.model.specs.Turns.{Remainder, At, parts}
 use Rattle.design.specs.CodePlaces.{remainders, remainders_inside, all_remainders, remainder_at, IsPlaceOf}
 use Rattle.design.specs.Emit.{first_of}
@@ -37,6 +37,7 @@ mutual
   length_remainders_inside place (Assign r e) rest = refl
   length_remainders_inside place (AssignAfter r d e) rest = refl
   length_remainders_inside place (AssignLater r d e) rest = refl
+  length_remainders_inside place (Now r) rest = refl
   length_remainders_inside place (Delay d body) rest = length_remainders (place + 1) body rest
   length_remainders_inside place (Await triggers body) rest = length_remainders (place + 1) body rest
   length_remainders_inside place (If c body otherwise) rest =
@@ -74,6 +75,7 @@ mutual
   placed_inside design place (Assign r e) rest h j = tt
   placed_inside design place (AssignAfter r d e) rest h j = tt
   placed_inside design place (AssignLater r d e) rest h j = tt
+  placed_inside design place (Now r) rest h j = tt
   placed_inside design place (Delay d body) rest h j = placed_all design (place + 1) body rest h j
   placed_inside design place (Await triggers body) rest h j = placed_all design (place + 1) body rest h j
   placed_inside design place (If c body otherwise) rest h j =

@@ -7,9 +7,10 @@ use Rattle.std.proofs.lemmas.List.Elements.{All-append}
 use Rattle.model.specs.Syntax as tree
 use Rattle.model.specs.Syntax.{Expression, Expressions}
 use Rattle.model.specs.Expressions.{sizing_of, left_size, right_size, operand_size, own_size}
-use Rattle.model.specs.Design.{Process, Statement, Empty, Assign, AssignAfter, AssignLater, Delay, Await, If, While, Print, Finish, Statements, End, Then, Piece, Byte, Argument, inside}
+use Rattle.model.specs.Design.{Process, Statement, Empty, Assign, AssignAfter, AssignLater, Now, Delay, Await, If, While, Print, Finish, Statements, End, Then, inside}
+use Rattle.model.specs.Syntax.{Piece, Byte, Argument}
 use Rattle.design.specs.declared.code.Op.{Op}
-use Rattle.design.specs.declared.code.Op.TheVariants.{Unary, Binary, Join, Resize, Choose}
+use Rattle.design.specs.declared.code.Op.TheVariants.{Unary, Binary, Join, Resize, Extend, Choose}
 use Rattle.design.specs.Sound.{IsSoundExpression, AreSoundExpressions, IsSoundStatement, AreSoundStatements}
 use Rattle.design.specs.ExpressionSteps.{IsOpOf}
 use Rattle.design.specs.Generate.{direct_step, step_or, join_code, expression_code, parts_code, own_code, assigned_code}
@@ -37,6 +38,7 @@ direct_ops widths op size asked other (tree.Concat parts) ops h all = all
 direct_ops widths op size asked other (tree.Unary unary e) ops h all = all
 direct_ops widths op size asked other (tree.Binary binary e f) ops h all = all
 direct_ops widths op size asked other (tree.Conditional c e f) ops h all = all
+direct_ops widths op size asked other (tree.Extend by n e) ops h all = all
 
 both_ops : (widths : List ℕ) (xs ys : List Op) → AreOps widths xs → AreOps widths ys → AreOps widths (xs ++ ys)
 both_ops widths xs ys h j = All-append (IsOpOf (length widths)) xs ys h j
@@ -65,6 +67,8 @@ mutual
       both_ops widths (expression_code widths (own_size widths c) c) (expression_code widths asked e ++ (expression_code widths asked f ++ last)) (expression_ops widths (own_size widths c) c h)
       (both_ops widths (expression_code widths asked e) (expression_code widths asked f ++ last) (expression_ops widths asked e j)
       (both_ops widths (expression_code widths asked f) last (expression_ops widths asked f k) (one_op widths (Choose asked) tt)))
+  expression_ops widths asked (tree.Extend by n e) (some, within, h) =
+      both_ops widths (expression_code widths (own_size widths e) e) (Extend by n asked ∷ []) (expression_ops widths (own_size widths e) e h) (one_op widths (Extend by n asked) tt)
 
   parts_ops : (widths : List ℕ) (is_first : Bool) (es : Expressions ℕ) → AreSoundExpressions widths es → AreOps widths (parts_code widths is_first es)
   parts_ops widths is_first tree.Nothing h = no_ops widths
@@ -91,6 +95,7 @@ mutual
   statement_ops widths next e (Assign r x) h all = both_ops widths e.ops (assigned_code widths r x) all (assigned_ops widths r x h.1)
   statement_ops widths next e (AssignAfter r d x) h all = both_ops widths e.ops (assigned_code widths r x) all (assigned_ops widths r x h.2)
   statement_ops widths next e (AssignLater r d x) h all = both_ops widths e.ops (assigned_code widths r x) all (assigned_ops widths r x h.2)
+  statement_ops widths next e (Now r) h all = all
   statement_ops widths next e (Delay d body) h all = all_ops widths next (delay_node e d body next) body h.1 all
   statement_ops widths next e (Await triggers body) h all = all_ops widths next (await_node e triggers body next) body h.1 all
   statement_ops widths next e (If c body otherwise) h all =

@@ -1,11 +1,11 @@
 -- The design of the definitions that a tree of the program stands for: the same forms, without boxes and vectors.
 use Rattle.std.specs.Prelude.{ℕ, List, [], ◌∷◌, map}
 use Rattle.std.specs.Box.{box_value}
-use Rattle.logic4.specs.Display as display
-use Rattle.model.specs.Syntax.{Register, Select, Literal, Concat, Unary, Binary, Conditional, Expressions, Nothing, Also}
+use Rattle.model.specs.Syntax.{Register, Select, Literal, Concat, Unary, Binary, Conditional, Extend, Expressions, Nothing, Also}
+use Rattle.model.specs.SourceTrees.{piece_of}
 use Rattle.model.specs.Syntax as syntax
 use Rattle.model.specs.Design as model
-use Rattle.model.specs.Design.{Byte, Argument, Empty, Assign, AssignAfter, AssignLater, Delay, Await, If, While, Print, Finish, Statements, End, Then}
+use Rattle.model.specs.Design.{Empty, Assign, AssignAfter, AssignLater, Now, Delay, Await, If, While, Print, Finish, Statements, End, Then}
 use Rattle.design.specs.declared.tree.Expression as expression
 use Rattle.design.specs.declared.tree.Expression.{fold-Expression}
 use Rattle.design.specs.declared.tree.Expression.TheOpen.{Expression-F}
@@ -13,10 +13,6 @@ use Rattle.design.specs.declared.tree.Statement as statement
 use Rattle.design.specs.declared.tree.Statement.{fold-Statement}
 use Rattle.design.specs.declared.tree.Statement.TheOpen.{Statement-F}
 use Rattle.design.specs.declared.tree.Process as process
-use Rattle.design.specs.declared.tree.Piece.{Piece}
-use Rattle.design.specs.declared.tree.Piece.TheVariants as pieces
-use Rattle.design.specs.declared.tree.Conversion.{Conversion}
-use Rattle.design.specs.declared.tree.Conversion.TheVariants as conversions
 
 -- the expressions of a list, in its order
 abbrev pub expressions : List (syntax.Expression ℕ) → Expressions ℕ
@@ -37,6 +33,7 @@ expression_node (Expression-F.Concat parts) = Concat (expressions parts.items)
 expression_node (Expression-F.Unary op e) = Unary op (box_value e)
 expression_node (Expression-F.Binary op e f) = Binary op (box_value e) (box_value f)
 expression_node (Expression-F.Conditional c e f) = Conditional (box_value c) (box_value e) (box_value f)
+expression_node (Expression-F.Extend by size e) = Extend by size (box_value e)
 
 -- the plain tree of an expression
 abbrev pub expression_of : expression.Expression → syntax.Expression ℕ
@@ -46,23 +43,13 @@ expression_of = fold-Expression (syntax.Expression ℕ) expression_node
 abbrev pub expressions_of : List expression.Expression → Expressions ℕ
 expressions_of es = expressions (map expression_of es)
 
--- how an argument is shown
-abbrev pub conversion_of : Conversion → display.Conversion
-conversion_of conversions.Binary = display.Binary
-conversion_of conversions.Hex = display.Hex
-conversion_of conversions.Decimal = display.Decimal
-
--- a piece of a format
-abbrev pub piece_of : Piece → model.Piece
-piece_of (pieces.Byte b) = Byte b
-piece_of (pieces.Argument c) = Argument (conversion_of c)
-
 -- one node of a statement, with each statement inside it already the plain one
 abbrev pub statement_node : Statement-F model.Statement → model.Statement
 statement_node Statement-F.Empty = Empty
 statement_node (Statement-F.Assign r e) = Assign r (expression_of e)
 statement_node (Statement-F.AssignAfter r delay e) = AssignAfter r delay (expression_of e)
 statement_node (Statement-F.AssignLater r delay e) = AssignLater r delay (expression_of e)
+statement_node (Statement-F.Now r) = Now r
 statement_node (Statement-F.Delay delay body) = Delay delay (statements body.items)
 statement_node (Statement-F.Await triggers body) = Await triggers.items (statements body.items)
 statement_node (Statement-F.If c body otherwise) = If (expression_of c) (statements body.items) (statements otherwise.items)

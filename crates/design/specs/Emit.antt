@@ -1,12 +1,10 @@
 -- The nodes that are made of statements, in the order of the text.
-use Rattle.std.specs.Prelude.{ℕ, ◌+◌, Bool, true, false, List, [], ◌∷◌, ◌++◌, length}
-use Rattle.logic4.specs.Display as display
+use Rattle.std.specs.Prelude.{ℕ, ◌+◌, Bool, true, false, List, [], ◌∷◌, ◌++◌, length, slice_index}
 use Rattle.model.specs.declared.tree.Task.{Task}
 use Rattle.model.specs.Syntax.{Expressions, Nothing, Also}
 use Rattle.model.specs.Design as tree
-use Rattle.model.specs.Design.{Process, Statement, Statements, End, Then, Trigger, Piece, Byte, Argument, inside, size}
-use Rattle.design.specs.declared.tree.Conversion.{Conversion}
-use Rattle.design.specs.declared.tree.Conversion.TheVariants as conversions
+use Rattle.model.specs.Design.{Process, Statement, Statements, End, Then, Trigger, inside, size}
+use Rattle.model.specs.Syntax.{Piece, Byte, Argument}
 use Rattle.design.specs.declared.code.Op.{Op}
 use Rattle.design.specs.declared.code.Span.{Span}
 use Rattle.design.specs.declared.code.LinePiece.{LinePiece}
@@ -52,12 +50,6 @@ abbrev pub next_of : ℕ → Statements → ℕ → ℕ
 next_of place End after = after
 next_of place (Then s ss) after = first_of (place + 1 + length (inside s)) ss after
 
--- the conversion of the program
-abbrev pub conversion_from : display.Conversion → Conversion
-conversion_from display.Binary = conversions.Binary
-conversion_from display.Hex = conversions.Hex
-conversion_from display.Decimal = conversions.Decimal
-
 -- the code with the pieces of a line, and the steps of its arguments
 abbrev pub with_line_code : List ℕ → Emitted → List Piece → Expressions ℕ → Emitted
 with_line_code widths e [] es = e
@@ -65,7 +57,7 @@ with_line_code widths e (Byte b ∷ ps) es = with_line_code widths (with_shown e
 with_line_code widths e (Argument c ∷ ps) Nothing = e
 with_line_code widths e (Argument c ∷ ps) (Also x es) =
     with_line_code widths
-    (with_shown (with_ops e (own_code widths x)) (shown.Value (conversion_from c) (span_behind e.ops (own_code widths x)))) ps es
+    (with_shown (with_ops e (own_code widths x)) (shown.Value c (span_behind e.ops (own_code widths x)))) ps es
 
 -- the code with a node that has a value
 abbrev pub with_valued : Emitted → List Op → (Span → Node) → Emitted
@@ -82,6 +74,7 @@ abbrev mutual
   with_statement widths next e (tree.Assign r x) = with_valued e (assigned_code widths r x) (λ s. node.Assign r s next)
   with_statement widths next e (tree.AssignAfter r delay x) = with_valued e (assigned_code widths r x) (λ s. node.AssignAfter r delay s next)
   with_statement widths next e (tree.AssignLater r delay x) = with_valued e (assigned_code widths r x) (λ s. node.AssignLater r delay s next)
+  with_statement widths next e (tree.Now r) = with_node e (node.Now r (slice_index widths r) next)
   with_statement widths next e (tree.Delay delay body) =
       with_all widths next (with_node e (node.Delay delay (first_of (length e.nodes + 1) body next))) body
   with_statement widths next e (tree.Await triggers body) =

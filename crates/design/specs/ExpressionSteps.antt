@@ -2,9 +2,10 @@
 use Rattle.std.specs.Prelude.{◌≡◌, ℕ, ◌<◌, nat_le, ◌&&◌, if◌then◌else◌, List, [], ◌∷◌, ◌++◌, length, slice_range}
 use Rattle.logic4.specs.Vector.{Vector, resize, unknown}
 use Rattle.logic4.specs.Operators.{select_digit}
+use Rattle.logic4.specs.Extensions.{extend_vector}
 use Rattle.model.specs.Expressions.{Store, value_of, unary_value, one_digit}
 use Rattle.design.specs.declared.code.Op.{Op}
-use Rattle.design.specs.declared.code.Op.TheVariants.{Load, Pick, Constant, Unary, Binary, BinaryConstant, BinaryRegister, Join, Resize, Choose}
+use Rattle.design.specs.declared.code.Op.TheVariants.{Load, Pick, Constant, Unary, Binary, BinaryConstant, BinaryRegister, Join, Resize, Extend, Choose}
 use Rattle.design.specs.declared.code.Span.{Span}
 use Rattle.design.specs.Operate.{combined, joined_two, chosen}
 
@@ -29,6 +30,7 @@ act values (BinaryConstant op size asked v) st = combined op size asked (topmost
 act values (BinaryRegister op size asked r other) st = combined op size asked (topmost st) (resize other (value_of values r)) ∷ below st
 act values Join st = joined_two (topmost (below st)) (topmost st) ∷ below (below st)
 act values (Resize size) st = resize size (topmost st) ∷ below st
+act values (Extend by size asked) st = resize asked (extend_vector by size (topmost st)) ∷ below st
 act values (Choose size) st =
     chosen size (topmost (below (below st))) (topmost (below st)) (topmost st) ∷ below (below (below st))
 

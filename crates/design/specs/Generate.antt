@@ -6,7 +6,7 @@ use Rattle.model.specs.Syntax as tree
 use Rattle.model.specs.Syntax.{Expression, Expressions}
 use Rattle.model.specs.Expressions.{sizing_of, left_size, right_size, operand_size, own_size}
 use Rattle.design.specs.declared.code.Op.{Op}
-use Rattle.design.specs.declared.code.Op.TheVariants.{Load, Pick, Constant, Unary, Binary, BinaryConstant, BinaryRegister, Join, Resize, Choose}
+use Rattle.design.specs.declared.code.Op.TheVariants.{Load, Pick, Constant, Unary, Binary, BinaryConstant, BinaryRegister, Join, Resize, Extend, Choose}
 
 -- the step that joins a part to those before it: there are none before the first
 abbrev pub join_code : Bool → List Op
@@ -41,6 +41,7 @@ abbrev mutual
   expression_code widths asked (tree.Conditional c e f) =
       expression_code widths (own_size widths c) c
       ++ (expression_code widths asked e ++ (expression_code widths asked f ++ Choose asked ∷ []))
+  expression_code widths asked (tree.Extend by size e) = expression_code widths (own_size widths e) e ++ Extend by size asked ∷ []
 
   -- the steps of the parts of a concatenation, each joined to those before it
   pub parts_code : List ℕ → Bool → Expressions ℕ → List Op

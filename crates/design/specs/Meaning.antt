@@ -1,9 +1,10 @@
 -- What code means: the node at a place does what the first part of the remainder at that place does.
-use Rattle.std.specs.Prelude.{◌≡◌, ◌⊎◌, ℕ, ◌+◌, ◌<◌, true, false, List, [], ◌∷◌, ◌++◌, length, Some, slice_get}
+use Rattle.std.specs.Prelude.{◌≡◌, ◌⊎◌, ℕ, ◌+◌, ◌<◌, true, false, List, [], ◌∷◌, ◌++◌, length, Some, slice_get, slice_index}
 use Rattle.std.specs.List.{All}
 use Rattle.model.specs.Syntax.{Expression, Expressions, Nothing, Also, registers_of}
 use Rattle.model.specs.Design as tree
-use Rattle.model.specs.Design.{Design, Statements, Piece, Byte, Argument, statement_at, process_at, size}
+use Rattle.model.specs.Design.{Design, Statements, statement_at, process_at, size}
+use Rattle.model.specs.Syntax.{Piece, Byte, Argument}
 use Rattle.model.specs.Expressions.{own_value, assigned_value}
 use Rattle.model.specs.Turns.{Remainder, At, parts, whole}
 use Rattle.design.specs.declared.code.Op.{Op}
@@ -11,7 +12,6 @@ use Rattle.design.specs.declared.code.LinePiece.{LinePiece}
 use Rattle.design.specs.declared.code.LinePiece.TheVariants as shown
 use Rattle.design.specs.declared.code.Node.{Node}
 use Rattle.design.specs.declared.code.Node.TheVariants as node
-use Rattle.design.specs.DesignTrees.{conversion_of}
 use Rattle.design.specs.Sound.{IsSound}
 use Rattle.design.specs.ExpressionSteps.{IsOpOf, Computes, span_of}
 use Rattle.design.specs.CodePlaces.{remainder_at, IsPlaceOf, statement_count}
@@ -34,7 +34,7 @@ abbrev pub IsLine : List ℕ → List Op → List LinePiece → List Piece → E
 IsLine widths ops [] [] Nothing = Unit {0}
 IsLine widths ops (shown.Byte b ∷ ss) (Byte c ∷ ps) es = (b ≡ c) × IsLine widths ops ss ps es
 IsLine widths ops (shown.Value conversion span ∷ ss) (Argument c ∷ ps) (Also e es) =
-    (conversion_of conversion ≡ c) × Computes (span_of ops span) (λ values. own_value widths values e) (registers_of e) × IsLine widths ops ss ps es
+    (conversion ≡ c) × Computes (span_of ops span) (λ values. own_value widths values e) (registers_of e) × IsLine widths ops ss ps es
 IsLine widths ops ss ps es = ⊥
 
 -- A node of the process with number p does what the first part of this remainder does, and leads to places of the
@@ -68,6 +68,12 @@ IsFine code p (node.AssignLater q delay span next) left =
     × Computes (span_of code.ops span) (λ values. assigned_value code.widths values q e) (registers_of e)
     × (q < length code.widths)
     × IsPlaceOf (design_of code) p next))
+IsFine code p (node.Now q digits next) left =
+    (place : ℕ) × ((left ≡ At place ∷ remainder_at (design_of code) next)
+    × (statement_at (design_of code) place ≡ tree.Now q)
+    × (digits ≡ slice_index code.widths q)
+    × (q < length code.widths)
+    × IsPlaceOf (design_of code) p next)
 IsFine code p (node.Delay delay next) left =
     (place : ℕ) × ((body : Statements) × ((rest : Remainder) × (
     (left ≡ At place ∷ rest)

@@ -3,55 +3,15 @@ ghost use Rattle.std.specs.Prelude.{◌≡◌, ◌<◌, ◌≤◌, ◌↔◌, le
 ghost use Rattle.std.specs.List.{All};
 ghost use Rattle.logic4.specs.Vector.{greatest_width, AreWithin};
 
-use crate::ascii::Ascii;
 use crate::control::{Control, RegId};
 use crate::packed_bits::PackedBits;
-use crate::tree::Conversion;
 use logic4::bits::Bits;
+use logic4::conversion::Conversion;
+use logic4::digit::Extension;
+pub use logic4::size::Size;
+use model::ascii::Ascii;
 use model::tree::{BinaryOperator, Task, UnaryOperator};
 use std::alloc::{AllocError, Global};
-use std::marker::Model;
-
-/// A width, from 1 to the greatest.
-#[derive(Clone, Copy)]
-pub struct Size {
-    digits: u32,
-}
-
-impl Model for Size {
-    ghost use Rattle.std.specs.Prelude.{ℕ, ◌≤◌};
-    ghost use Rattle.logic4.specs.Vector.{greatest_width};
-
-    ghost Value = { ℕ };
-
-    ghost view = { λ s. s.digits };
-
-    ghost invariant = { λ s. (1 ≤ s.digits) × (s.digits ≤ greatest_width) };
-
-    ghost inverse = { λ v. record { digits = v } };
-
-    ghost inverse_ok = { λ s h i. record { digits = s.digits } };
-}
-
-impl Size {
-    /// This many digits.
-    pub fn new(digits: u32) -> Self
-        requires some { 1 ≤ digits }
-        requires within { digits ≤ greatest_width }
-        ensures { result ≡ digits }
-    {
-        Size { digits }
-    }
-
-    /// The number of digits.
-    pub fn get(self) -> u32
-        ensures value { result ≡ self }
-        ensures some { 1 ≤ result }
-        ensures within { result ≤ greatest_width }
-    {
-        self.digits
-    }
-}
 
 /// One step of an expression, on a stack of vectors. Each says the sizes of what it makes.
 #[derive(Clone, Copy)]
@@ -102,6 +62,12 @@ pub enum Op {
     /// The topmost vector, extended or cut.
     Resize {
         size: Size,
+    },
+    /// The topmost vector, extended by its sign or by zeros to a size (5.4, 5.5.4), and then extended with zeros or cut.
+    Extend {
+        by: Extension,
+        size: Size,
+        asked: Size,
     },
     /// The second or the first of the two topmost vectors, by the truth of the third (5.1.13).
     Choose {
@@ -156,6 +122,12 @@ pub enum Node {
         value: Span,
         next: usize,
     },
+    /// The time as a register's value (17.7.1).
+    Now {
+        register: RegId,
+        size: Size,
+        next: usize,
+    },
     /// A delay before a statement (9.7.1).
     Delay {
         delay: u32,
@@ -172,7 +144,7 @@ pub enum Node {
         taken: usize,
         missed: usize,
     },
-    /// `$display` or `$strobe` (17.1).
+    /// `$display`, `$strobe` or `$write` (17.1).
     Print {
         task: Task,
         pieces: Span,

@@ -105,7 +105,7 @@ impl Design {
     /// The number of registers.
     pub fn registers(&self) -> u32
         ensures value { result ≡ length self.now.widths }
-        ensures few { result ≤ 1024 }
+        ensures few { result ≤ 65536 }
         ensures compiled { IsCompiled self.now }
     {
         self.widths.len() as u32
@@ -181,7 +181,7 @@ impl Design {
     /// The number of processes.
     pub fn processes(&self) -> u32
         ensures value { result ≡ length (design_of self.now).processes }
-        ensures few { result ≤ 256 }
+        ensures few { result ≤ 16384 }
     {
         self.processes.len() as u32
     }

@@ -1,5 +1,5 @@
 //! The nodes of statements, in the order of the text: the node of a statement stands at the statement's place.
-ghost use Rattle.std.specs.Prelude.{◌≡◌, ◌<◌, ◌≤◌, ◌+◌, ◌++◌, ◌∷◌, [], length, map, drop, slice_get, Some, OnOk, IfOk, List};
+ghost use Rattle.std.specs.Prelude.{◌≡◌, ◌<◌, ◌≤◌, ◌+◌, ◌++◌, ◌∷◌, [], length, map, drop, slice_get, slice_index, Some, OnOk, IfOk, List};
 ghost use Rattle.model.specs.Design as model;
 ghost use Rattle.model.specs.Design.{inside, size};
 ghost use Rattle.design.specs.declared.code.Node.TheVariants as node;
@@ -14,6 +14,7 @@ use crate::code::{LinePiece, Node, Op, Span};
 use crate::control::{Control, RegId, Trigger};
 use crate::extents::Extent;
 use crate::room::room_of;
+use crate::sizes::width_of;
 use crate::tree::{Expression, Process, Statement};
 use std::alloc::{AllocError, Global};
 
@@ -213,6 +214,21 @@ impl Emitter {
         self.put(assign_node(assignment_kind, register, value, next))
     }
 
+    // The node of the time as a register's value.
+    fn time(&mut self, widths: &[u32], register: RegId, next: usize) -> Result<(), AllocError>
+        requires declared { register < length widths.now }
+        requires widths { AreWidths widths.now }
+        ensures node { OnOk result (emitted_of self.new ≡ with_node (emitted_of self.old) (node.Now register (slice_index widths.now register) next)) }
+        ensures length { OnOk result (length self.new.nodes.items ≡ length self.old.nodes.items + 1) }
+    {
+        let size = width_of(widths, register);
+        self.put(Node::Now {
+            register,
+            size,
+            next,
+        })
+    }
+
     // A statement and those inside it, which lead to the next place.
     #[cycle(emit)]
     fn emit(
@@ -242,6 +258,7 @@ impl Emitter {
                 let later = AssignmentKind::Later(*delay);
                 self.assign(widths, *register, later, value, next)
             }
+            Statement::Now(register) => self.time(widths, *register, next),
             Statement::Delay(delay, body) => {
                 self.delay(*delay, body, next)?;
                 self.emit_all(widths, table, body, next)

@@ -143,6 +143,12 @@ fn emit(
             emit(ops, widths, asked, second)?;
             put(ops, Op::Choose { size: asked })
         }
+        Expression::Extend(by, size, operand) => {
+            let by = *by;
+            let size = *size;
+            emit(ops, widths, own_size(widths, operand), operand)?;
+            put(ops, Op::Extend { by, size, asked })
+        }
     }
 }
 

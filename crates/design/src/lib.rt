@@ -11,7 +11,6 @@
 //! remainder does (`specs/Meaning.antt`).
 #![tactic(auto)]
 
-mod ascii;
 pub mod code;
 mod control;
 mod design;
@@ -26,9 +25,9 @@ mod sizes;
 pub mod tree;
 mod valued;
 
-pub use ascii::Ascii;
 pub use code::ProcState;
 pub use control::{Control, RegId, Trigger};
 pub use design::Design;
+pub use model::ascii::Ascii;
 pub use packed_bits::{PackedBits, halves, join};
 pub use sizes::{Sizing, sizing_of};

@@ -23,6 +23,7 @@ fn steps(expression: &Expression) -> usize {
             .saturating_add(steps(first))
             .saturating_add(steps(second))
             .saturating_add(1),
+        Expression::Extend(_, _, operand) => steps(operand).saturating_add(1),
     }
 }
 
@@ -65,7 +66,7 @@ impl Room {
     #[cycle(room)]
     fn statement(&mut self, statement: &Statement) {
         match statement {
-            Statement::Empty | Statement::Finish => (),
+            Statement::Empty | Statement::Now(_) | Statement::Finish => (),
             Statement::Assign(_, value) => self.value(value),
             Statement::AssignAfter(_, _, value) => self.value(value),
             Statement::AssignLater(_, _, value) => self.value(value),

@@ -62,7 +62,9 @@ pub fn sizing_of(operator: BinaryOperator) -> Sizing
         BinaryOperator::Less
         | BinaryOperator::LessEqual
         | BinaryOperator::Greater
-        | BinaryOperator::GreaterEqual => Sizing::Greatest,
+        | BinaryOperator::GreaterEqual
+        | BinaryOperator::SignedLess
+        | BinaryOperator::SignedLessEqual => Sizing::Greatest,
         BinaryOperator::LogicalOr | BinaryOperator::LogicalAnd => Sizing::EachOwn,
     }
 }
@@ -147,6 +149,7 @@ pub fn own_size(widths: &[u32], expression: &Expression) -> Size
         Expression::Conditional(_, first, second) => {
             greater(own_size(widths, first), own_size(widths, second))
         }
+        Expression::Extend(_, size, _) => *size,
     }
 }
 

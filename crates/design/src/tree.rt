@@ -1,8 +1,11 @@
 //! A design as a tree: names are numbers, and a block is the list of its statements.
 
-use crate::ascii::Ascii;
 use crate::control::{RegId, Trigger};
 use logic4::bits::Bits;
+pub use logic4::conversion::Conversion;
+use logic4::digit::Extension;
+use logic4::size::Size;
+pub use model::tree::Piece;
 use model::tree::{BinaryOperator, Task, UnaryOperator};
 
 /// An expression over the numbers of registers (5.1).
@@ -15,30 +18,17 @@ pub enum Expression {
     Unary(UnaryOperator, Box<Expression>),
     Binary(BinaryOperator, Box<Expression>, Box<Expression>),
     Conditional(Box<Expression>, Box<Expression>, Box<Expression>),
+    Extend(Extension, Size, Box<Expression>),
 }
 
-/// How an argument is shown (17.1.1.2): `%b`, `%h` or `%0d`.
-#[derive(Clone, Copy, PartialEq, Eq)]
-pub enum Conversion {
-    Binary,
-    Hex,
-    Decimal,
-}
-
-/// A piece of a display format (17.1.1): a byte as it is, or a place where the next argument is shown.
-#[derive(Clone, Copy, PartialEq, Eq)]
-pub enum Piece {
-    Byte(Ascii),
-    Argument(Conversion),
-}
-
-/// A statement (9.2 to 9.9, 17.1, 17.4). Delays are counts of time units.
+/// A statement (9.2 to 9.9, 17.1, 17.4, 17.7). Delays are counts of time units. `Now` gives a register the time.
 #[derive(Drop)]
 pub enum Statement {
     Empty,
     Assign(RegId, Expression),
     AssignAfter(RegId, u32, Expression),
     AssignLater(RegId, u32, Expression),
+    Now(RegId),
     Delay(u32, Vec<Statement>),
     Await(Vec<Trigger>, Vec<Statement>),
     If(Expression, Vec<Statement>, Vec<Statement>),

@@ -1,9 +1,10 @@
 //! The values and the lines of statements.
 ghost use Rattle.std.specs.Prelude.{◌≡◌, ◌<◌, ◌≤◌, ◌+◌, ◌∷◌, [], length, map, drop, OnOk, IfOk, List};
-ghost use Rattle.model.specs.Design as model;
+ghost use Rattle.model.specs.Syntax as syntax;
 ghost use Rattle.model.specs.Elaboration.{argument_count};
 ghost use Rattle.design.specs.Sound.{AreWidths, IsSoundExpression, AreSoundExpressions, how_many};
-ghost use Rattle.design.specs.DesignTrees.{expression_of, expressions_of, piece_of};
+ghost use Rattle.design.specs.DesignTrees.{expression_of, expressions_of};
+ghost use Rattle.model.specs.SourceTrees.{piece_of};
 ghost use Rattle.design.specs.Generate.{own_code, assigned_code};
 ghost use Rattle.design.specs.Emit.{with_ops, with_shown, with_line_code, span_behind};
 ghost use Rattle.design.specs.Emitter.{emitted_of};
@@ -71,7 +72,7 @@ impl Emitter {
         requires sound { AreSoundExpressions widths.now (expressions_of arguments.now) }
         requires widths { AreWidths widths.now }
         ensures used { IfOk result (λ n. n ≡ next + argument_count (piece_of piece ∷ [])) }
-        ensures line { IfOk result (λ n. (ps : List model.Piece) → with_line_code widths.now (emitted_of self.new) ps (expressions_of (drop n arguments.now)) ≡ with_line_code widths.now (emitted_of self.old) (piece_of piece ∷ ps) (expressions_of (drop next arguments.now))) }
+        ensures line { IfOk result (λ n. (ps : List syntax.Piece) → with_line_code widths.now (emitted_of self.new) ps (expressions_of (drop n arguments.now)) ≡ with_line_code widths.now (emitted_of self.old) (piece_of piece ∷ ps) (expressions_of (drop next arguments.now))) }
         ensures nodes { IfOk result (λ s. length self.new.nodes.items ≡ length self.old.nodes.items) }
     {
         match piece {

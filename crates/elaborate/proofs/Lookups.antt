@@ -1,11 +1,14 @@
 -- The registers as a list of pairs, and as the program holds them.
-use Rattle.std.proofs.Common.{◌≡◌, ℕ, zero, suc, nat_lt, nat_le, ◌<◌, Bool, true, false, ◌||◌, List, [], ◌∷◌, ◌++◌, map, length, get_or, Option, None, refl, sym, ap, ◌∙◌, unwrap_or, position, arith, add-one, length-append}
+use Rattle.std.proofs.Common.{◌≡◌, ℕ, zero, suc, nat_lt, nat_le, ◌<◌, ◌≤◌, Bool, true, false, ◌||◌, List, [], ◌∷◌, ◌++◌, map, length, get_or, Option, None, refl, sym, ap, ◌∙◌, unwrap_or, position, arith, add-one, length-append}
 use Rattle.std.proofs.lemmas.Bool.Decides.{nat_tests}
 use Rattle.std.proofs.lemmas.List.{map-append}
 use Rattle.std.proofs.lemmas.List.Sums.{prefix_len-le-length}
 use Rattle.std.specs.Str.{bytes_eq}
 use Rattle.std.specs.List.{list_any, position_or_len}
 use Rattle.std.specs.Cmp.Lexicographic.{nat_list_eq_equiv}
+use Rattle.model.specs.declared.limits.ModuleLimits.{ModuleLimits}
+use Rattle.model.specs.declared.limits.ModuleLimits.TheVariants.{Profile, Whole}
+use Rattle.model.specs.ModuleLimits.{most_registers}
 use Rattle.model.specs.Syntax.{Text}
 use Rattle.model.specs.Elaboration.{Declared, has_name, is_declared, is_range, number_of, range_of, width_of, widths_of}
 use Rattle.elaborate.specs.Registers.{with_ranges, AreRegisters}
@@ -85,13 +88,18 @@ place_is p ks = by (nat_lt (position_or_len p ks) (length ks)) refl
     by true q = rw q
     by false q = rw q (grind (arith, nat_tests, prefix_len-le-length))
 
+-- no limits leave more registers than those of whole designs
+pub most_within : (limits : ModuleLimits) → most_registers limits ≤ 65536
+most_within Profile = omega arith
+most_within Whole = omega arith
+
 -- where nothing is wrong with a name, it is new, and its range is allowed
-pub allowed : (ds : List Declared) (name : Text) (r : Option (ℕ × ℕ)) → found_name ds (name, r) ≡ None
-    → (is_declared ds name ≡ false) × (is_range r ≡ true) × (length ds < 1024)
-allowed ds name r = by (is_declared ds name) (is_range r) (nat_le 1024 (length ds)) refl refl refl
+pub allowed : (limits : ModuleLimits) (ds : List Declared) (name : Text) (r : Option (ℕ × ℕ)) → found_name limits ds (name, r) ≡ None
+    → (is_declared ds name ≡ false) × (is_range r ≡ true) × (length ds < most_registers limits)
+allowed limits ds name r = by (is_declared ds name) (is_range r) (nat_le (most_registers limits) (length ds)) refl refl refl
   where
-    by : (a b c : Bool) → is_declared ds name ≡ a → is_range r ≡ b → nat_le 1024 (length ds) ≡ c → found_name ds (name, r) ≡ None
-        → (is_declared ds name ≡ false) × (is_range r ≡ true) × (length ds < 1024)
+    by : (a b c : Bool) → is_declared ds name ≡ a → is_range r ≡ b → nat_le (most_registers limits) (length ds) ≡ c → found_name limits ds (name, r) ≡ None
+        → (is_declared ds name ≡ false) × (is_range r ≡ true) × (length ds < most_registers limits)
     by true b c p q s h = absurd (let k = rw p at h in cc)
     by false false c p q s h = absurd (let k = rw (p, q) at h in cc)
     by false true true p q s h = absurd (let k = rw (p, q, s) at h in cc)
@@ -99,9 +107,9 @@ allowed ds name r = by (is_declared ds name) (is_range r) (nat_le 1024 (length d
 
 module _ {K : Type 0} (bytes : K → Text) where
   -- a new name goes last
-  pub inserted : (s : K) (r : Option (ℕ × ℕ)) (ks : List K) (rs : List (Option (ℕ × ℕ))) → length (map bytes ks) ≡ length rs
-      → found_name (with_ranges (map bytes ks) rs) (bytes s, r) ≡ None → insert_key (λ x y. bytes_eq (bytes x) (bytes y)) ks s ≡ ks ++ s ∷ []
-  inserted s r ks rs e h = rw (sym (declared_is bytes (bytes s) ks rs e) ∙ (allowed _ (bytes s) r h).0)
+  pub inserted : (limits : ModuleLimits) (s : K) (r : Option (ℕ × ℕ)) (ks : List K) (rs : List (Option (ℕ × ℕ))) → length (map bytes ks) ≡ length rs
+      → found_name limits (with_ranges (map bytes ks) rs) (bytes s, r) ≡ None → insert_key (λ x y. bytes_eq (bytes x) (bytes y)) ks s ≡ ks ++ s ∷ []
+  inserted limits s r ks rs e h = rw (sym (declared_is bytes (bytes s) ks rs e) ∙ (allowed limits _ (bytes s) r h).0)
 
   ranged_more : (rs : List (Option (ℕ × ℕ))) (r : Option (ℕ × ℕ)) → ((k : ℕ) → is_range (get_or rs k None) ≡ true) → is_range r ≡ true
       → (k : ℕ) → is_range (get_or (rs ++ r ∷ []) k None) ≡ true
@@ -110,14 +118,14 @@ module _ {K : Type 0} (bytes : K → Text) where
   ranged_more (x ∷ rs) r h q zero = h 0
   ranged_more (x ∷ rs) r h q (suc k) = ranged_more rs r (λ j. h (suc j)) q k
 
-  pub registers_more : (s : K) (r : Option (ℕ × ℕ)) (ks : List K) (rs : List (Option (ℕ × ℕ))) → AreRegisters (map bytes ks) rs
-      → found_name (with_ranges (map bytes ks) rs) (bytes s, r) ≡ None → AreRegisters (map bytes (ks ++ s ∷ [])) (rs ++ r ∷ [])
-  registers_more s r ks rs a h =
-      let b = allowed _ (bytes s) r h in
+  pub registers_more : (limits : ModuleLimits) (s : K) (r : Option (ℕ × ℕ)) (ks : List K) (rs : List (Option (ℕ × ℕ))) → AreRegisters (map bytes ks) rs
+      → found_name limits (with_ranges (map bytes ks) rs) (bytes s, r) ≡ None → AreRegisters (map bytes (ks ++ s ∷ [])) (rs ++ r ∷ [])
+  registers_more limits s r ks rs a h =
+      let b = allowed limits _ (bytes s) r h in
       let e = same_length bytes ks rs a.paired in
       record {
         paired = simp (map-append, length-append) (omega (arith, a.paired));
-        few = simp length-append (omega (arith, b.2, e));
+        few = simp length-append (omega (arith, b.2, e, most_within limits));
         ranged = ranged_more rs r a.ranged b.1;
       }
 

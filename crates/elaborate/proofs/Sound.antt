@@ -5,17 +5,21 @@ use Rattle.std.proofs.lemmas.List.{length-map}
 use Rattle.std.proofs.lemmas.List.Elements.{All-nil, All-cons}
 use Rattle.std.specs.List.{All}
 use Rattle.model.specs.declared.tree.Change.{Change}
+use Rattle.model.specs.declared.limits.ModuleLimits.{ModuleLimits}
+use Rattle.model.specs.declared.limits.ModuleLimits.TheVariants.{Profile, Whole}
+use Rattle.model.specs.ModuleLimits.{most_registers, most_processes}
 use Rattle.model.specs.Syntax as source
-use Rattle.model.specs.Syntax.{Text, Expression, Register, Select, Literal, Concat, Unary, Binary, Conditional, Expressions, Nothing, Also, Module}
+use Rattle.model.specs.Syntax.{Text, Expression, Register, Select, Literal, Concat, Unary, Binary, Conditional, Extend, Expressions, Nothing, Also, Module}
 use Rattle.logic4.specs.Vector.{greatest_width, AreWithin}
-use Rattle.model.specs.Design.{Statements, End, Then, Piece}
+use Rattle.model.specs.Design.{Statements, End, Then}
+use Rattle.model.specs.Syntax.{Piece}
 use Rattle.model.specs.Elaboration as model
-use Rattle.model.specs.Elaboration.{Fault, Declared, has_name, is_declared, number_of, is_range, is_index, range_of, width_of, widths_of, parts_size, most_registers, most_processes, greatest_delay, count_of, is_format_for, pieces_of, argument_count, resolved, all_resolved, followed_by, statements_of, block_of, elaborated_process, design_of_module, declared, assignment, trigger_of}
+use Rattle.model.specs.Elaboration.{Fault, Declared, has_name, is_declared, number_of, is_range, is_index, range_of, width_of, widths_of, parts_size, greatest_delay, count_of, is_format_for, pieces_of, argument_count, resolved, all_resolved, followed_by, statements_of, block_of, elaborated_process, design_of_module, declared, assignment, trigger_of}
 use Rattle.design.specs.Sound.{HasSome, how_many, IsSoundExpression, AreSoundExpressions, IsSoundStatement, AreSoundStatements, IsSound}
-use Rattle.elaborate.specs.FirstFindings.{or_fault, found_where, undeclared_fault, unknown_among, used, all_used, used_in, all_used_in, used_by, found_name, found_names, found_concat, found, all_found, found_delay, found_format, found_in, all_found_in, found_by, found_few, found_among}
+use Rattle.elaborate.specs.FirstFindings.{or_fault, found_where, undeclared_fault, unknown_among, used, all_used, used_in, all_used_in, used_by, found_name, found_names, found_concat, found, all_found, found_delay, found_format, found_pieces, found_in, all_found_in, found_by, found_few, found_among}
 use Rattle.elaborate.specs.Small.{IsSmall, AreSmall, IsShortDelay, IsSmallStatement, AreSmallStatements, AreSmallProcesses}
 use Rattle.elaborate.specs.Formed.{HasParts, IsFormed, AreFormed, IsFormedStatement, AreFormedStatements, AreFormedProcesses}
-use Rattle.elaborate.proofs.Lookups.{allowed}
+use Rattle.elaborate.proofs.Lookups.{allowed, most_within}
 
 -- nothing found by two walks is nothing found by each
 split : (a b : Option Fault) → or_fault a b ≡ None → (a ≡ None) × (b ≡ None)
@@ -64,6 +68,7 @@ mutual
   sound ds (Unary op e) w u f = sound ds e w u f
   sound ds (Binary op e g) w u f =
       let a = split (used ds e) (used ds g) u in let b = split (found ds e) (found ds g) f in (sound ds e w.0 a.0 b.0, sound ds g w.1 a.1 b.1)
+  sound ds (Extend by size e) w u f = (w.0, w.1, sound ds e w.2 u f)
   sound ds (Conditional c e g) w u f =
       let a = split (used ds c) (or_fault (used ds e) (used ds g)) u in let a2 = split (used ds e) (used ds g) a.1 in
       let b = split (found ds c) (or_fault (found ds e) (found ds g)) f in let b2 = split (found ds e) (found ds g) b.1 in
@@ -122,6 +127,7 @@ mutual
   sound_in ds (source.AssignLater name delay e) w u f =
       let a = split (undeclared_fault ds name) (used ds e) u in let b = split (found_delay delay) (found ds e) f in
       ((known_below ds name a.0, short_or_none delay b.0, sound ds e w a.1 b.1), tt)
+  sound_in ds (source.Now name) w u f = (known_below ds name u, tt)
   sound_in ds (source.Delay delay s) w u f =
       let b = split (found_delay (Some delay)) (found_in ds s) f in ((short delay b.0, sound_in ds s w u b.1), tt)
   sound_in ds (source.Await triggers s) w u f =
@@ -145,6 +151,14 @@ mutual
         ),
         tt,
       )
+  sound_in ds (source.PrintPieces task pieces arguments) w u f =
+      let b = split (found_pieces (Some pieces) (count_of arguments)) (all_found ds arguments) f in (
+        (
+          same_count (Some pieces) (count_of arguments) (holds (is_format_for (Some pieces) (count_of arguments)) model.BadFormat b.0) ∙ sym (counted ds arguments),
+          all_sound ds arguments w u b.1,
+        ),
+        tt,
+      )
   sound_in ds source.Finish w u f = (tt, tt)
 
   pub all_sound_in : (ds : List Declared) (ss : source.SourceStatements) → AreFormedStatements ss → all_used_in ds ss ≡ None → all_found_in ds ss ≡ None → AreSoundStatements (widths_of ds) (block_of ds ss)
@@ -161,25 +175,25 @@ sound_by ds (p ∷ ps) w u f =
     All-cons (λ p. AreSoundStatements (widths_of ds) p.body) (elaborated_process ds p) (map (elaborated_process ds) ps) (sound_in ds p.body w.0 a.0 b.0) (sound_by ds ps w.1 a.1 b.1)
 
 -- each range is allowed
-range_allowed : (before ds : List Declared) → found_names before ds ≡ None → (name : Text) → is_range (range_of ds name) ≡ true
-range_allowed before [] h name = refl
-range_allowed before (d ∷ ds) h name =
-    let a = split (found_name before d) (found_names (before ++ d ∷ []) ds) h in
-    by (has_name name d) refl (allowed before d.0 d.1 a.0).1 (range_allowed (before ++ d ∷ []) ds a.1 name)
+range_allowed : (limits : ModuleLimits) (before ds : List Declared) → found_names limits before ds ≡ None → (name : Text) → is_range (range_of ds name) ≡ true
+range_allowed limits before [] h name = refl
+range_allowed limits before (d ∷ ds) h name =
+    let a = split (found_name limits before d) (found_names limits (before ++ d ∷ []) ds) h in
+    by (has_name name d) refl (allowed limits before d.0 d.1 a.0).1 (range_allowed limits (before ++ d ∷ []) ds a.1 name)
   where
     by : (b : Bool) → has_name name d ≡ b → is_range d.1 ≡ true → is_range (range_of ds name) ≡ true → is_range (range_of (d ∷ ds) name) ≡ true
     by true q mine others = rw q mine
     by false q mine others = rw q others
 
 -- and there aren't too many registers
-few_registers : (before ds : List Declared) → found_names before ds ≡ None → length before ≤ 1024 → length before + length ds ≤ 1024
-few_registers before [] h few = omega arith
-few_registers before (d ∷ ds) h few =
-    let a = split (found_name before d) (found_names (before ++ d ∷ []) ds) h in
-    let room = (allowed before d.0 d.1 a.0).2 in
+few_registers : (limits : ModuleLimits) (before ds : List Declared) → found_names limits before ds ≡ None → length before ≤ most_registers limits → length before + length ds ≤ most_registers limits
+few_registers limits before [] h few = omega arith
+few_registers limits before (d ∷ ds) h few =
+    let a = split (found_name limits before d) (found_names limits (before ++ d ∷ []) ds) h in
+    let room = (allowed limits before d.0 d.1 a.0).2 in
     let e = length-append before (d ∷ []) in
-    let k : length (before ++ d ∷ []) ≤ 1024 = omega (arith, e) in
-    omega (arith, e, few_registers (before ++ d ∷ []) ds a.1 k)
+    let k : length (before ++ d ∷ []) ≤ most_registers limits = omega (arith, e) in
+    omega (arith, e, few_registers limits (before ++ d ∷ []) ds a.1 k)
 
 -- an allowed range has 1 to 128 digits
 high_of : (high low : ℕ) → ((low == 0) && nat_lt high greatest_width) ≡ true → high < greatest_width
@@ -193,34 +207,41 @@ few_width : (r : Option (ℕ × ℕ)) → is_range r ≡ true → width_of r ≤
 few_width None h = omega arith
 few_width (Some r) h = omega (arith, high_of r.0 r.1 h)
 
-some_widths : (before ds : List Declared) → found_names before ds ≡ None → All (λ w. 1 ≤ w) (widths_of ds)
-some_widths before [] h = All-nil (λ w. 1 ≤ w)
-some_widths before (d ∷ ds) h =
-    let a = split (found_name before d) (found_names (before ++ d ∷ []) ds) h in
-    All-cons (λ w. 1 ≤ w) (width_of d.1) (widths_of ds) (some_width d.1 (allowed before d.0 d.1 a.0).1) (some_widths (before ++ d ∷ []) ds a.1)
+some_widths : (limits : ModuleLimits) (before ds : List Declared) → found_names limits before ds ≡ None → All (λ w. 1 ≤ w) (widths_of ds)
+some_widths limits before [] h = All-nil (λ w. 1 ≤ w)
+some_widths limits before (d ∷ ds) h =
+    let a = split (found_name limits before d) (found_names limits (before ++ d ∷ []) ds) h in
+    All-cons (λ w. 1 ≤ w) (width_of d.1) (widths_of ds) (some_width d.1 (allowed limits before d.0 d.1 a.0).1) (some_widths limits (before ++ d ∷ []) ds a.1)
 
-few_widths : (before ds : List Declared) → found_names before ds ≡ None → AreWithin (widths_of ds)
-few_widths before [] h = All-nil (λ w. w ≤ greatest_width)
-few_widths before (d ∷ ds) h =
-    let a = split (found_name before d) (found_names (before ++ d ∷ []) ds) h in
-    All-cons (λ w. w ≤ greatest_width) (width_of d.1) (widths_of ds) (few_width d.1 (allowed before d.0 d.1 a.0).1) (few_widths (before ++ d ∷ []) ds a.1)
+few_widths : (limits : ModuleLimits) (before ds : List Declared) → found_names limits before ds ≡ None → AreWithin (widths_of ds)
+few_widths limits before [] h = All-nil (λ w. w ≤ greatest_width)
+few_widths limits before (d ∷ ds) h =
+    let a = split (found_name limits before d) (found_names limits (before ++ d ∷ []) ds) h in
+    All-cons (λ w. w ≤ greatest_width) (width_of d.1) (widths_of ds) (few_width d.1 (allowed limits before d.0 d.1 a.0).1) (few_widths limits (before ++ d ∷ []) ds a.1)
 
-few_all : (n : ℕ) → nat_lt 256 n ≡ false → n ≤ 256
-few_all n h = grind (arith, nat_tests)
+few_all : (m n : ℕ) → nat_lt m n ≡ false → n ≤ m
+few_all m n h = grind (arith, nat_tests)
+
+-- no limits leave more processes than those of whole designs
+few_processes_within : (limits : ModuleLimits) → most_processes limits ≤ 16384
+few_processes_within Profile = omega arith
+few_processes_within Whole = omega arith
+
+none_before : (limits : ModuleLimits) → 0 ≤ most_registers limits
+none_before limits = omega arith
 
 -- the design of a module in which nothing is found is sound
-pub sound_design : (m : Module) → AreFormedProcesses m.processes → found_names [] (declared m) ≡ None → found_among (declared m) m.processes ≡ None → IsSound (design_of_module m)
-sound_design m w n f =
+pub sound_design : (limits : ModuleLimits) (m : Module) → AreFormedProcesses m.processes → found_names limits [] (declared m) ≡ None → found_among limits (declared m) m.processes ≡ None → IsSound (design_of_module m)
+sound_design limits m w n f =
     let ds = declared m in let ps = m.processes in
-    let a = split (found_few (length ps)) (or_fault (used_by ds ps) (found_by ds ps)) f in let b = split (used_by ds ps) (found_by ds ps) a.1 in
-    let zero_before : length {A = Declared} [] ≤ 1024 = omega arith in
-    let few = few_registers [] ds n zero_before in
-    let count = few_all (length ps) (fails (nat_lt 256 (length ps)) model.TooManyProcesses a.0) in
+    let a = split (found_few limits (length ps)) (or_fault (used_by ds ps) (found_by ds ps)) f in let b = split (used_by ds ps) (found_by ds ps) a.1 in
+    let few = few_registers limits [] ds n (none_before limits) in
+    let count = few_all (most_processes limits) (length ps) (fails (nat_lt (most_processes limits) (length ps)) model.TooManyProcesses a.0) in
     record {
-      some_digit = some_widths [] ds n;
-      few_digits = few_widths [] ds n;
-      few_registers = rw length-map (omega arith);
-      few_processes = rw length-map count;
+      some_digit = some_widths limits [] ds n;
+      few_digits = few_widths limits [] ds n;
+      few_registers = rw length-map (omega (arith, few, most_within limits));
+      few_processes = rw length-map (omega (arith, count, few_processes_within limits));
       statements = sound_by ds ps w b.0 b.1;
     }
 
@@ -241,6 +262,7 @@ module _ (ds : List Declared) (ranged : (name : Text) → is_range (range_of ds 
     small (Concat parts) f = all_small parts (split (found_concat ds parts) (all_found ds parts) f).1
     small (Unary op e) f = small e f
     small (Binary op e g) f = let b = split (found ds e) (found ds g) f in (small e b.0, small g b.1)
+    small (Extend by size e) f = small e f
     small (Conditional c e g) f =
         let b = split (found ds c) (or_fault (found ds e) (found ds g)) f in let b2 = split (found ds e) (found ds g) b.1 in
         (small c b.0, small e b2.0, small g b2.1)
@@ -259,6 +281,7 @@ module _ (ds : List Declared) (ranged : (name : Text) → is_range (range_of ds 
     small_in (source.Block body) f = all_small_in body f
     small_in (source.Assign name delay e) f = let b = split (found_delay delay) (found ds e) f in (short_delay delay b.0, small e b.1)
     small_in (source.AssignLater name delay e) f = let b = split (found_delay delay) (found ds e) f in (short_delay delay b.0, small e b.1)
+    small_in (source.Now name) f = tt
     small_in (source.Delay delay s) f = let b = split (found_delay (Some delay)) (found_in ds s) f in (short delay b.0, small_in s b.1)
     small_in (source.Await triggers s) f = small_in s f
     small_in (source.If c body) f = let b = split (found ds c) (all_found_in ds body) f in (small c b.0, all_small_in body b.1)
@@ -267,6 +290,7 @@ module _ (ds : List Declared) (ranged : (name : Text) → is_range (range_of ds 
         (small c b.0, all_small_in body b2.0, all_small_in otherwise b2.1)
     small_in (source.While c body) f = let b = split (found ds c) (all_found_in ds body) f in (small c b.0, all_small_in body b.1)
     small_in (source.Print task format arguments) f = all_small arguments (split (found_format format (count_of arguments)) (all_found ds arguments) f).1
+    small_in (source.PrintPieces task pieces arguments) f = all_small arguments (split (found_pieces (Some pieces) (count_of arguments)) (all_found ds arguments) f).1
     small_in source.Finish f = tt
 
     pub all_small_in : (ss : source.SourceStatements) → all_found_in ds ss ≡ None → AreSmallStatements ss
@@ -278,8 +302,8 @@ module _ (ds : List Declared) (ranged : (name : Text) → is_range (range_of ds 
   small_by (p ∷ ps) f = let b = split (found_in ds p.body) (found_by ds ps) f in (small_in p.body b.0, small_by ps b.1)
 
 -- the processes of a module in which nothing is found are small
-pub small_module : (m : Module) → found_names [] (declared m) ≡ None → found_among (declared m) m.processes ≡ None → AreSmallProcesses m.processes
-small_module m n f =
+pub small_module : (limits : ModuleLimits) (m : Module) → found_names limits [] (declared m) ≡ None → found_among limits (declared m) m.processes ≡ None → AreSmallProcesses m.processes
+small_module limits m n f =
     let ds = declared m in let ps = m.processes in
-    let a = split (found_few (length ps)) (or_fault (used_by ds ps) (found_by ds ps)) f in let b = split (used_by ds ps) (found_by ds ps) a.1 in
-    small_by ds (range_allowed [] ds n) ps b.1
+    let a = split (found_few limits (length ps)) (or_fault (used_by ds ps) (found_by ds ps)) f in let b = split (used_by ds ps) (found_by ds ps) a.1 in
+    small_by ds (range_allowed limits [] ds n) ps b.1

@@ -4,6 +4,7 @@ use Rattle.std.specs.declared.vec.IntoIter.{IntoIter}
 use Rattle.std.specs.Vec.Iter.{into_iter_items, into_iter_len}
 use Rattle.std.proofs.lemmas.List.{drop_all}
 use Rattle.model.specs.Design.{Statements}
+use Rattle.model.specs.declared.limits.ModuleLimits.{ModuleLimits}
 use Rattle.model.specs.Elaboration as model
 use Rattle.model.specs.Elaboration.{Declared, Fault, all_resolved, block_of, followed_by, resolved}
 use Rattle.model.specs.declared.tree.SourceStatement as statement
@@ -77,7 +78,7 @@ first_part f (Some x) b is = is
 first_part f None None is = is
 first_part f None (Some x) is = rw is tt
 
-module _ (names : List Declared) (ds : List declaration.Declaration) (d : declaration.Declaration) (i : ℕ) (h : i < length ds) (e : d ≡ get_or ds i d) where
+module _ (limits : ModuleLimits) (names : List Declared) (ds : List declaration.Declaration) (d : declaration.Declaration) (i : ℕ) (h : i < length ds) (e : d ≡ get_or ds i d) where
   abbrev mine : List Declared
   mine = of_range d.range (map string_bytes d.names.items)
 
@@ -92,11 +93,11 @@ module _ (names : List Declared) (ds : List declaration.Declaration) (d : declar
   one_declaration next n = ap (λ xs. names ++ xs) split_declared ∙ sym (append_assoc names mine behind) ∙ ap (λ xs. xs ++ behind) (sym n)
 
   pub found_behind : (next : List Declared) → next ≡ names ++ of_range d.range (map string_bytes d.names.items)
-      → found_names names (of_range d.range (map string_bytes d.names.items)) ≡ None
-      → found_names names (all_declared (map declaration_of (drop i ds))) ≡ found_names next (all_declared (map declaration_of (drop (i + 1) ds)))
+      → found_names limits names (of_range d.range (map string_bytes d.names.items)) ≡ None
+      → found_names limits names (all_declared (map declaration_of (drop i ds))) ≡ found_names limits next (all_declared (map declaration_of (drop (i + 1) ds)))
   found_behind next n none =
-      ap (found_names names) split_declared ∙ found_names_append names mine behind ∙ ap (λ o. or_fault o (found_names (names ++ mine) behind)) none
-      ∙ ap (λ xs. found_names xs behind) (sym n)
+      ap (found_names limits names) split_declared ∙ found_names_append limits names mine behind ∙ ap (λ o. or_fault o (found_names limits (names ++ mine) behind)) none
+      ∙ ap (λ xs. found_names limits xs behind) (sym n)
 
-  pub fault_in : (f : ElabFault) → IsFirstOf f (found_names names (of_range d.range (map string_bytes d.names.items))) → IsFirstOf f (found_names names (all_declared (map declaration_of (drop i ds))))
-  fault_in f is = subst (IsFirstOf f) (sym (ap (found_names names) split_declared ∙ found_names_append names mine behind)) (first_part f (found_names names mine) (found_names (names ++ mine) behind) is)
+  pub fault_in : (f : ElabFault) → IsFirstOf f (found_names limits names (of_range d.range (map string_bytes d.names.items))) → IsFirstOf f (found_names limits names (all_declared (map declaration_of (drop i ds))))
+  fault_in f is = subst (IsFirstOf f) (sym (ap (found_names limits names) split_declared ∙ found_names_append limits names mine behind)) (first_part f (found_names limits names mine) (found_names limits (names ++ mine) behind) is)

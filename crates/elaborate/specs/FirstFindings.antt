@@ -1,9 +1,11 @@
 -- What the walks over a tree find first. Each definition here answers for one of them.
 use Rattle.std.specs.Prelude.{◌≡◌, ℕ, ◌+◌, Bool, true, false, not, nat_lt, nat_le, min, List, [], ◌∷◌, ◌++◌, map, length, Option, Some, None, Result, Ok, Err, string_bytes}
 use Rattle.model.specs.Elaboration as model
-use Rattle.model.specs.Elaboration.{Fault, Declared, declared, is_declared, most_registers, most_processes, is_range, is_index, range_of, parts_size, greatest_delay, pieces_of, count_of, is_format_for}
+use Rattle.model.specs.Elaboration.{Fault, Declared, declared, is_declared, is_range, is_index, range_of, parts_size, greatest_delay, pieces_of, count_of, is_format_for}
+use Rattle.model.specs.declared.limits.ModuleLimits.{ModuleLimits}
+use Rattle.model.specs.ModuleLimits.{most_registers, most_processes}
 use Rattle.model.specs.Syntax as source
-use Rattle.model.specs.Syntax.{Text, Expression, Register, Select, Literal, Concat, Unary, Binary, Conditional, Expressions, Nothing, Also}
+use Rattle.model.specs.Syntax.{Text, Expression, Register, Select, Literal, Concat, Unary, Binary, Conditional, Extend, Expressions, Nothing, Also, Piece}
 use Rattle.logic4.specs.Vector.{greatest_width}
 use Rattle.elaborate.specs.declared.fault.ElabFault.{ElabFault}
 use Rattle.elaborate.specs.declared.fault.ElabFault.TheVariants as told
@@ -51,6 +53,7 @@ abbrev mutual
   used ds (Unary op e) = used ds e
   used ds (Binary op e f) = or_fault (used ds e) (used ds f)
   used ds (Conditional c e f) = or_fault (used ds c) (or_fault (used ds e) (used ds f))
+  used ds (Extend by size e) = used ds e
 
   pub all_used : List Declared → Expressions Text → Option Fault
   all_used ds Nothing = None
@@ -94,12 +97,14 @@ abbrev mutual
   used_in ds (source.Block body) = all_used_in ds body
   used_in ds (source.Assign name delay e) = or_fault (undeclared_fault ds name) (used ds e)
   used_in ds (source.AssignLater name delay e) = or_fault (undeclared_fault ds name) (used ds e)
+  used_in ds (source.Now name) = undeclared_fault ds name
   used_in ds (source.Delay delay s) = used_in ds s
   used_in ds (source.Await triggers s) = or_fault (unknown_among ds (map (λ t. t.1) triggers)) (used_in ds s)
   used_in ds (source.If c body) = or_fault (used ds c) (all_used_in ds body)
   used_in ds (source.IfElse c body otherwise) = or_fault (used ds c) (or_fault (all_used_in ds body) (all_used_in ds otherwise))
   used_in ds (source.While c body) = or_fault (used ds c) (all_used_in ds body)
   used_in ds (source.Print task format arguments) = all_used ds arguments
+  used_in ds (source.PrintPieces task pieces arguments) = all_used ds arguments
   used_in ds source.Finish = None
 
   pub all_used_in : List Declared → source.SourceStatements → Option Fault
@@ -112,16 +117,16 @@ used_by ds [] = None
 used_by ds (p ∷ ps) = or_fault (used_in ds p.body) (used_by ds ps)
 
 -- what is wrong with one declared name, behind others
-abbrev pub found_name : List Declared → Declared → Option Fault
-found_name before d =
+abbrev pub found_name : ModuleLimits → List Declared → Declared → Option Fault
+found_name limits before d =
     or_fault (found_where (is_declared before d.0) (model.DeclaredTwice d.0))
     (or_fault (found_where (not (is_range d.1)) (model.BadRange d.0))
-    (found_where (nat_le most_registers (length before)) model.TooManyRegisters))
+    (found_where (nat_le (most_registers limits) (length before)) model.TooManyRegisters))
 
 -- what is wrong first with declared names, behind others
-abbrev pub found_names : List Declared → List Declared → Option Fault
-found_names before [] = None
-found_names before (d ∷ ds) = or_fault (found_name before d) (found_names (before ++ d ∷ []) ds)
+abbrev pub found_names : ModuleLimits → List Declared → List Declared → Option Fault
+found_names limits before [] = None
+found_names limits before (d ∷ ds) = or_fault (found_name limits before d) (found_names limits (before ++ d ∷ []) ds)
 
 -- a size, or one more than the greatest width where it is greater
 abbrev pub capped : ℕ → ℕ
@@ -141,6 +146,7 @@ abbrev mutual
   found ds (Unary op e) = found ds e
   found ds (Binary op e f) = or_fault (found ds e) (found ds f)
   found ds (Conditional c e f) = or_fault (found ds c) (or_fault (found ds e) (found ds f))
+  found ds (Extend by size e) = found ds e
 
   pub all_found : List Declared → Expressions Text → Option Fault
   all_found ds Nothing = None
@@ -151,9 +157,13 @@ abbrev pub found_delay : Option ℕ → Option Fault
 found_delay None = None
 found_delay (Some delay) = found_where (nat_lt greatest_delay delay) model.LongDelay
 
+-- pieces that aren't there, or aren't those of a format for the arguments
+abbrev pub found_pieces : Option (List Piece) → ℕ → Option Fault
+found_pieces pieces count = found_where (not (is_format_for pieces count)) model.BadFormat
+
 -- a format that isn't one for its arguments
 abbrev pub found_format : List ℕ → ℕ → Option Fault
-found_format format count = found_where (not (is_format_for (pieces_of format) count)) model.BadFormat
+found_format format count = found_pieces (pieces_of format) count
 
 -- what is wrong first with statements, in the order of the text
 abbrev mutual
@@ -162,12 +172,14 @@ abbrev mutual
   found_in ds (source.Block body) = all_found_in ds body
   found_in ds (source.Assign name delay e) = or_fault (found_delay delay) (found ds e)
   found_in ds (source.AssignLater name delay e) = or_fault (found_delay delay) (found ds e)
+  found_in ds (source.Now name) = None
   found_in ds (source.Delay delay s) = or_fault (found_delay (Some delay)) (found_in ds s)
   found_in ds (source.Await triggers s) = found_in ds s
   found_in ds (source.If c body) = or_fault (found ds c) (all_found_in ds body)
   found_in ds (source.IfElse c body otherwise) = or_fault (found ds c) (or_fault (all_found_in ds body) (all_found_in ds otherwise))
   found_in ds (source.While c body) = or_fault (found ds c) (all_found_in ds body)
   found_in ds (source.Print task format arguments) = or_fault (found_format format (count_of arguments)) (all_found ds arguments)
+  found_in ds (source.PrintPieces task pieces arguments) = or_fault (found_pieces (Some pieces) (count_of arguments)) (all_found ds arguments)
   found_in ds source.Finish = None
 
   pub all_found_in : List Declared → source.SourceStatements → Option Fault
@@ -180,16 +192,16 @@ found_by ds [] = None
 found_by ds (p ∷ ps) = or_fault (found_in ds p.body) (found_by ds ps)
 
 -- too many processes
-abbrev pub found_few : ℕ → Option Fault
-found_few count = found_where (nat_lt most_processes count) model.TooManyProcesses
+abbrev pub found_few : ModuleLimits → ℕ → Option Fault
+found_few limits count = found_where (nat_lt (most_processes limits) count) model.TooManyProcesses
 
 -- what is wrong first with the processes of a module: too many, names, and the rest
-abbrev pub found_among : List Declared → List source.SourceProcess → Option Fault
-found_among ds ps = or_fault (found_few (length ps)) (or_fault (used_by ds ps) (found_by ds ps))
+abbrev pub found_among : ModuleLimits → List Declared → List source.SourceProcess → Option Fault
+found_among limits ds ps = or_fault (found_few limits (length ps)) (or_fault (used_by ds ps) (found_by ds ps))
 
 -- what is wrong first with a module
-abbrev pub found_module : source.Module → Option Fault
-found_module m = or_fault (found_names [] (declared m)) (found_among (declared m) m.processes)
+abbrev pub found_module : ModuleLimits → source.Module → Option Fault
+found_module limits m = or_fault (found_names limits [] (declared m)) (found_among limits (declared m) m.processes)
 
 -- a fault that is told is what was found first; only want of memory is told where nothing was found
 abbrev pub IsFirstOf : ElabFault → Option Fault → Type 0

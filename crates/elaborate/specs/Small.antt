@@ -1,7 +1,7 @@
 -- Modules whose numbers the program's design can hold.
 use Rattle.std.specs.Prelude.{ℕ, ◌≤◌, List, [], ◌∷◌, Option, None, Some}
 use Rattle.model.specs.Syntax as source
-use Rattle.model.specs.Syntax.{Text, Expression, Register, Select, Literal, Concat, Unary, Binary, Conditional, Expressions, Nothing, Also}
+use Rattle.model.specs.Syntax.{Text, Expression, Register, Select, Literal, Concat, Unary, Binary, Conditional, Extend, Expressions, Nothing, Also}
 use Rattle.logic4.specs.Vector.{greatest_width}
 use Rattle.model.specs.Elaboration.{greatest_delay}
 
@@ -15,6 +15,7 @@ abbrev mutual
   IsSmall (Unary op e) = IsSmall e
   IsSmall (Binary op e f) = IsSmall e × IsSmall f
   IsSmall (Conditional c e f) = IsSmall c × IsSmall e × IsSmall f
+  IsSmall (Extend by size e) = IsSmall e
 
   pub AreSmall : Expressions Text → Type 0
   AreSmall Nothing = Unit {0}
@@ -32,12 +33,14 @@ abbrev mutual
   IsSmallStatement (source.Block body) = AreSmallStatements body
   IsSmallStatement (source.Assign name delay e) = IsShortDelay delay × IsSmall e
   IsSmallStatement (source.AssignLater name delay e) = IsShortDelay delay × IsSmall e
+  IsSmallStatement (source.Now name) = Unit {0}
   IsSmallStatement (source.Delay delay s) = (delay ≤ greatest_delay) × IsSmallStatement s
   IsSmallStatement (source.Await triggers s) = IsSmallStatement s
   IsSmallStatement (source.If c body) = IsSmall c × AreSmallStatements body
   IsSmallStatement (source.IfElse c body otherwise) = IsSmall c × AreSmallStatements body × AreSmallStatements otherwise
   IsSmallStatement (source.While c body) = IsSmall c × AreSmallStatements body
   IsSmallStatement (source.Print task format arguments) = AreSmall arguments
+  IsSmallStatement (source.PrintPieces task pieces arguments) = AreSmall arguments
   IsSmallStatement source.Finish = Unit {0}
 
   pub AreSmallStatements : source.SourceStatements → Type 0

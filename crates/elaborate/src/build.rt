@@ -1,6 +1,7 @@
 //! The nodes of a design's tree, with what each stands for.
 ghost use Rattle.std.specs.Prelude.{◌≡◌, map, unwrap_or, IfOk, OnOk};
-ghost use Rattle.design.specs.DesignTrees.{expression_of, expressions_of, piece_of, statement_of, statements_of};
+ghost use Rattle.design.specs.DesignTrees.{expression_of, expressions_of, statement_of, statements_of};
+ghost use Rattle.model.specs.SourceTrees.{piece_of};
 ghost use Rattle.model.specs.Design as model;
 ghost use Rattle.model.specs.Elaboration.{alone, assignment, followed_by};
 ghost use Rattle.model.specs.Syntax as syntax;
@@ -8,6 +9,8 @@ ghost use Rattle.elaborate.specs.Small.{IsShortDelay};
 
 use design::tree::{Expression, Piece, Statement};
 use design::{RegId, Trigger};
+use logic4::digit::Extension;
+use logic4::size::Size;
 use model::tree::{BinaryOperator, Task, UnaryOperator};
 use std::alloc::{AllocError, Global};
 
@@ -57,6 +60,12 @@ pub fn unary_of(alloc: Global, op: UnaryOperator, e: Expression) -> Built<Expres
     Ok(Expression::Unary(op, Box::new(alloc, e)?))
 }
 
+pub fn extend_of(alloc: Global, by: Extension, size: Size, e: Expression) -> Built<Expression>
+    ensures { IfOk result (λ made. expression_of made ≡ syntax.Extend by size (expression_of e)) }
+{
+    Ok(Expression::Extend(by, size, Box::new(alloc, e)?))
+}
+
 /// A blocking assignment, with the delay inside it where there is one.
 pub fn assign_of(register: RegId, wait: Option<u64>, value: Expression) -> Statement
     requires { IsShortDelay wait }
@@ -83,6 +92,12 @@ pub fn assign_later_of(register: RegId, wait: u32, value: Expression) -> Stateme
     ensures { statement_of result ≡ model.AssignLater register wait (expression_of value) }
 {
     Statement::AssignLater(register, wait, value)
+}
+
+pub fn now_of(register: RegId) -> Statement
+    ensures { statement_of result ≡ model.Now register }
+{
+    Statement::Now(register)
 }
 
 pub fn delay_of(wait: u32, body: Vec<Statement>) -> Statement

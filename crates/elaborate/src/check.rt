@@ -1,21 +1,22 @@
 //! Formats, concatenations, bit indices and delays, in the order of the text.
-ghost use Rattle.std.specs.Prelude.{◌≡◌, ◌+◌, None, map, max, length, nat_lt, OnOk};
+ghost use Rattle.std.specs.Prelude.{◌≡◌, ◌+◌, ◌≤◌, None, Some, map, max, length, nat_lt, OnOk};
 ghost use Rattle.model.specs.Elaboration.{all_resolved, count_of, resolved, widths_of};
 ghost use Rattle.model.specs.Expressions.{own_size, result_size, sizing_of, total_size, unary_size};
 ghost use Rattle.model.specs.Elaboration as model;
 ghost use Rattle.model.specs.Syntax.{Literal, Select};
 ghost use Rattle.logic4.specs.Vector.{greatest_width};
-ghost use Rattle.model.specs.SourceTrees.{source_expression_of, source_expressions, source_process_of, source_statement_of, source_statements};
+ghost use Rattle.model.specs.SourceTrees.{piece_of, source_expression_of, source_expressions, source_process_of, source_statement_of, source_statements};
 ghost use Rattle.elaborate.specs.Formed.{IsFormed, AreFormed, IsFormedStatement, AreFormedStatements, AreFormedProcesses};
-ghost use Rattle.elaborate.specs.FirstFindings.{first_finding, or_fault, capped, found_where, found, all_found, found_delay, found_format, found_in, all_found_in, found_by};
+ghost use Rattle.elaborate.specs.FirstFindings.{first_finding, or_fault, capped, found_where, found, all_found, found_delay, found_format, found_pieces, found_in, all_found_in, found_by};
 
 use crate::finding::Finding;
 use crate::format;
 use crate::names::RegisterNames;
 use design::{Sizing, sizing_of};
 use logic4::bits::{Bits, MAX_WIDTH};
+use logic4::size::Size;
 use model::tree::{
-    BinaryOperator, SourceExpression, SourceProcess, SourceStatement, UnaryOperator,
+    BinaryOperator, Piece, SourceExpression, SourceProcess, SourceStatement, UnaryOperator,
 };
 
 const MAX_DELAY: u64 = 4_294_967_295;
@@ -48,7 +49,7 @@ fn statement<'a>(names: &RegisterNames, s: &'a SourceStatement) -> Result<(), Fi
     ensures formed { OnOk result (IsFormedStatement (source_statement_of s.now)) }
 {
     match s {
-        SourceStatement::Empty | SourceStatement::Finish => Ok(()),
+        SourceStatement::Empty | SourceStatement::Now(_) | SourceStatement::Finish => Ok(()),
         SourceStatement::Block(body) => block(names, body.as_slice()),
         SourceStatement::Assign(_, wait, e) | SourceStatement::AssignLater(_, wait, e) => {
             delay(*wait)?;
@@ -70,6 +71,10 @@ fn statement<'a>(names: &RegisterNames, s: &'a SourceStatement) -> Result<(), Fi
         }
         SourceStatement::Print(_, format, arguments) => {
             line(format.as_slice(), arguments.as_slice())?;
+            expressions(names, arguments.as_slice()).first_finding
+        }
+        SourceStatement::PrintPieces(_, pieces, arguments) => {
+            line_of(pieces.as_slice(), arguments.as_slice())?;
             expressions(names, arguments.as_slice()).first_finding
         }
     }
@@ -101,6 +106,24 @@ fn line<'a>(format: &[u8], arguments: &[SourceExpression]) -> Result<(), Finding
     ensures { first_finding result ≡ found_format format.now (count_of (source_expressions (map source_expression_of arguments.now))) }
 {
     shows(format, arguments.len())
+}
+
+// Refuses pieces that show another number of arguments.
+fn line_of<'a>(pieces: &[Piece], arguments: &[SourceExpression]) -> Result<(), Finding<'a>>
+    ensures { first_finding result ≡ found_pieces (Some (map piece_of pieces.now)) (count_of (source_expressions (map source_expression_of arguments.now))) }
+{
+    show_all(pieces, arguments.len())
+}
+
+// Refuses pieces that show another number of arguments than this.
+fn show_all<'a>(pieces: &[Piece], arguments: usize) -> Result<(), Finding<'a>>
+    ensures { first_finding result ≡ found_pieces (Some (map piece_of pieces.now)) arguments }
+{
+    if format::shown_by(pieces) == arguments {
+        Ok(())
+    } else {
+        Err(Finding::BadFormat)
+    }
 }
 
 // Refuses a format that is none, or that shows another number of arguments.
@@ -144,6 +167,7 @@ fn expression<'a>(names: &RegisterNames, e: &'a SourceExpression) -> Checked<'a>
             let test = expression(names, c);
             conditional(test, expression(names, e), expression(names, f))
         }
+        SourceExpression::Extend(_, size, e) => extended(*size, expression(names, e)),
     }
 }
 
@@ -219,6 +243,18 @@ fn conditional<'a>(test: Checked<'a>, left: Checked<'a>, right: Checked<'a>) -> 
             test.first_finding,
             first(left.first_finding, right.first_finding),
         ),
+    }
+}
+
+// What is told of an extension to a size, by what is told of its operand.
+fn extended<'a>(size: Size, operand: Checked<'a>) -> Checked<'a>
+    ensures size { result.size ≡ capped size }
+    ensures first_finding { first_finding result.first_finding ≡ first_finding operand.entry.first_finding }
+    ensures formed { (1 ≤ size) × (size ≤ greatest_width) }
+{
+    Checked {
+        size: size.get(),
+        first_finding: operand.first_finding,
     }
 }
 

@@ -1,8 +1,8 @@
 //! Display formats (17.1.1), read from left to right.
 ghost use Rattle.std.specs.Prelude.{◌≡◌, ◌≤◌, ◌↔◌, ◌++◌, ◌∷◌, [], map, option_map, unwrap_or, IsNone, IfSome, IfOk, OnOk};
-ghost use Rattle.model.specs.Design.{Byte};
+ghost use Rattle.model.specs.Syntax.{Byte};
 ghost use Rattle.model.specs.Elaboration.{AtByte, AfterPercent, argument_count, pieces_of, read_byte};
-ghost use Rattle.design.specs.DesignTrees.{piece_of};
+ghost use Rattle.model.specs.SourceTrees.{piece_of};
 ghost use Rattle.elaborate.specs.Formats.{stage_of, step_of, completed_piece};
 
 use design::Ascii;
@@ -52,6 +52,17 @@ pub fn pieces(alloc: Global, format: &[u8]) -> Result<Vec<Piece>, AllocError>
         FormatStage::AtByte => Ok(pieces),
         _ => Ok(Vec::new(alloc)),
     }
+}
+
+/// How many arguments these pieces show.
+pub fn shown_by(pieces: &[Piece]) -> usize
+    ensures { result ≡ argument_count (map piece_of pieces.now) }
+{
+    let mut count = 0;
+    for piece in pieces {
+        count += arguments(Some(*piece));
+    }
+    count
 }
 
 // One byte of a format, and the piece that it completes. None where it may not stand there.

@@ -1,7 +1,9 @@
 //! The declared registers, by number and by name.
 ghost use Rattle.std.specs.Prelude.{◌≡◌, ℕ, ◌++◌, ◌<◌, ◌≤◌, [], ◌∷◌, None, true, false, map, length, slice_index, slice_index_or, IfOk, IfErr, OnOk};
 ghost use Rattle.logic4.specs.Vector.{greatest_width};
-ghost use Rattle.model.specs.Elaboration.{is_declared, is_range, most_registers, number_of, range_of, width_of, widths_of};
+ghost use Rattle.model.specs.Elaboration.{is_declared, is_range, number_of, range_of, width_of, widths_of};
+ghost use Rattle.model.specs.declared.limits.ModuleLimits.TheVariants.{Whole};
+ghost use Rattle.model.specs.ModuleLimits.{most_registers};
 ghost use Rattle.design.specs.Compiled.{design_of};
 ghost use Rattle.design.specs.Sound.{IsSound};
 ghost use Rattle.design.specs.DesignTrees.{tree_design};
@@ -13,10 +15,9 @@ use design::Design;
 use design::tree::Process;
 use indexmap::IndexSet;
 use logic4::bits::MAX_WIDTH;
+use model::limits::ModuleLimits;
 use std::alloc::{AllocError, Global};
 use std::marker::Model;
-
-const MAX_REGISTERS: usize = 1024;
 
 /// A register's range, as it stands in its declaration.
 pub type Range = Option<(u64, u64)>;
@@ -56,37 +57,49 @@ impl RegisterNames {
     pub fn declare(
         self,
         alloc: Global,
+        limits: ModuleLimits,
         name: &str,
         range: Range,
     ) -> Result<RegisterNames, ElabFault>
-        ensures allowed { OnOk result (found_name self (name.now, range) ≡ None) }
+        ensures allowed { OnOk result (found_name limits self (name.now, range) ≡ None) }
         ensures added { IfOk result (λ names. names ≡ self ++ (name.now, range) ∷ []) }
-        ensures fault { IfErr result (λ f. IsFirstOf f (found_name self (name.now, range))) }
+        ensures fault { IfErr result (λ f. IsFirstOf f (found_name limits self (name.now, range))) }
     {
-        match self.allowed(name, range) {
-            Ok(()) => Ok(self.with(alloc, name, range)?),
+        match self.allowed(limits, name, range) {
+            Ok(()) => Ok(self.with(alloc, limits, name, range)?),
             Err(finding) => Err(finding.fault(alloc)),
         }
     }
 
     // Refuses what `declare` refuses, in the same order.
-    fn allowed<'a>(&self, name: &'a str, range: Range) -> Result<(), Finding<'a>>
-        ensures { first_finding result ≡ found_name self.now (name.now, range) }
+    fn allowed<'a>(
+        &self,
+        limits: ModuleLimits,
+        name: &'a str,
+        range: Range,
+    ) -> Result<(), Finding<'a>>
+        ensures { first_finding result ≡ found_name limits self.now (name.now, range) }
     {
         if self.contains(name) {
             Err(Finding::DeclaredTwice(name))
         } else if !is_allowed(range) {
             Err(Finding::BadRange(name))
-        } else if self.count() >= MAX_REGISTERS {
+        } else if self.count() >= limits.most_registers() {
             Err(Finding::TooManyRegisters)
         } else {
             Ok(())
         }
     }
 
-    // One register more, which may be declared. Fails where memory is refused.
-    fn with(self, alloc: Global, name: &str, range: Range) -> Result<RegisterNames, AllocError>
-        requires { found_name self (name.now, range) ≡ None }
+    // One register more, which may be declared under these limits. Fails where memory is refused.
+    fn with(
+        self,
+        alloc: Global,
+        limits: ModuleLimits,
+        name: &str,
+        range: Range,
+    ) -> Result<RegisterNames, AllocError>
+        requires { found_name limits self (name.now, range) ≡ None }
         ensures { IfOk result (λ names. names ≡ self ++ (name.now, range) ∷ []) }
     {
         let RegisterNames {
@@ -117,7 +130,7 @@ impl RegisterNames {
 
     fn count(&self) -> usize
         ensures value { result ≡ length self.now }
-        ensures few { result ≤ most_registers }
+        ensures few { result ≤ most_registers Whole }
     {
         self.ranges.len()
     }
@@ -153,7 +166,7 @@ impl RegisterNames {
     // The place of the register with a name, or the number of all registers.
     fn place(&self, name: &str) -> usize
         ensures number { result ≡ number_of self.now name.now }
-        ensures within { result ≤ most_registers }
+        ensures within { result ≤ most_registers Whole }
     {
         self.names.get_index_of(name).unwrap_or(self.names.len())
     }

@@ -4,7 +4,7 @@ ghost use Rattle.design.specs.DesignTrees as tree;
 ghost use Rattle.model.specs.Elaboration as model;
 ghost use Rattle.model.specs.Design as designs;
 ghost use Rattle.model.specs.Elaboration.{all_resolved, assignment, block_of, followed_by, number_of, pieces_of, resolved};
-ghost use Rattle.model.specs.SourceTrees.{source_expression_of, source_expressions, source_process_of, source_statement_of, source_statements, source_trigger_of};
+ghost use Rattle.model.specs.SourceTrees.{piece_of, source_expression_of, source_expressions, source_process_of, source_statement_of, source_statements, source_trigger_of};
 ghost use Rattle.elaborate.specs.Small.{IsSmall, AreSmall, IsShortDelay, IsSmallStatement, AreSmallStatements, AreSmallProcesses};
 
 use crate::build::{self, Built};
@@ -12,7 +12,7 @@ use crate::format;
 use crate::names::RegisterNames;
 use design::Trigger;
 use design::tree::{Expression, Process, Statement};
-use model::tree::{EventExpression, SourceExpression, SourceProcess, SourceStatement, Task};
+use model::tree::{EventExpression, Piece, SourceExpression, SourceProcess, SourceStatement, Task};
 use std::alloc::Global;
 
 /// The processes of a design, from those of a module.
@@ -191,6 +191,7 @@ fn statement(
             let wait = build::wait_of(*wait);
             assign_later(alloc, names, name.as_str(), wait, e, into)
         }
+        SourceStatement::Now(name) => time(names, name.as_str(), into),
         SourceStatement::Delay(wait, s) => {
             let body = alone(alloc, names, s)?;
             delay(into, *wait as u32, body)
@@ -218,6 +219,14 @@ fn statement(
             names,
             *task,
             format.as_slice(),
+            arguments.as_slice(),
+            into,
+        ),
+        SourceStatement::PrintPieces(task, pieces, arguments) => print_pieces(
+            alloc,
+            names,
+            *task,
+            pieces.as_slice(),
             arguments.as_slice(),
             into,
         ),
@@ -281,6 +290,15 @@ fn assign_later(
     )
 }
 
+// The time as a register's value, behind others.
+#[inline(never)]
+fn time(names: &RegisterNames, name: &str, into: &mut Vec<Statement>) -> Built<()>
+    ensures { OnOk result (tree.statements_of into.new.items
+        ≡ followed_by (tree.statements_of into.old.items) (model.alone (designs.Now (number_of names.now name.now)))) }
+{
+    build::push(into, build::now_of(names.number(name)))
+}
+
 // A delay before statements, behind others.
 #[inline(never)]
 fn delay(into: &mut Vec<Statement>, wait: u32, body: Vec<Statement>) -> Built<()>
@@ -334,7 +352,26 @@ fn repetition(
     build::push(into, build::while_of(test, body))
 }
 
-// `$display` or `$strobe`, behind others.
+// A print with the pieces of its format, behind others.
+#[inline(never)]
+fn print_pieces(
+    alloc: Global,
+    names: &RegisterNames,
+    task: Task,
+    pieces: &[Piece],
+    arguments: &[SourceExpression],
+    into: &mut Vec<Statement>,
+) -> Built<()>
+    requires { AreSmall (source_expressions (map source_expression_of arguments.now)) }
+    ensures { OnOk result (tree.statements_of into.new.items
+        ≡ followed_by (tree.statements_of into.old.items) (model.alone (designs.Print task (map piece_of pieces.now) (all_resolved names.now (source_expressions (map source_expression_of arguments.now)))))) }
+{
+    let pieces = Vec::from_slice(alloc, pieces)?;
+    let arguments = expressions(alloc, names, arguments, arguments.len())?;
+    build::push(into, build::print_of(task, pieces, arguments))
+}
+
+// A print with its format, behind others.
 #[inline(never)]
 fn print(
     alloc: Global,
@@ -397,6 +434,10 @@ fn expression(alloc: Global, names: &RegisterNames, e: &SourceExpression) -> Bui
             let first = expression(alloc, names, e)?;
             let second = expression(alloc, names, f)?;
             build::conditional_of(alloc, test, first, second)
+        }
+        SourceExpression::Extend(by, size, e) => {
+            let operand = expression(alloc, names, e)?;
+            build::extend_of(alloc, *by, *size, operand)
         }
     }
 }

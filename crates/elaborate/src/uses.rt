@@ -32,6 +32,7 @@ fn statement<'a>(names: &RegisterNames, s: &'a SourceStatement) -> Result<(), Fi
             names.known(name.as_str())?;
             expression(names, e)
         }
+        SourceStatement::Now(name) => names.known(name.as_str()),
         SourceStatement::Delay(_, s) => statement(names, s),
         SourceStatement::Await(triggers, s) => {
             events(names, triggers.as_slice())?;
@@ -47,6 +48,7 @@ fn statement<'a>(names: &RegisterNames, s: &'a SourceStatement) -> Result<(), Fi
             block(names, otherwise.as_slice())
         }
         SourceStatement::Print(_, _, arguments) => expressions(names, arguments.as_slice()),
+        SourceStatement::PrintPieces(_, _, arguments) => expressions(names, arguments.as_slice()),
     }
 }
 
@@ -86,7 +88,7 @@ fn expression<'a>(names: &RegisterNames, e: &'a SourceExpression) -> Result<(), 
             expression(names, part)?;
             expressions(names, others.as_slice())
         }
-        SourceExpression::Unary(_, e) => expression(names, e),
+        SourceExpression::Unary(_, e) | SourceExpression::Extend(_, _, e) => expression(names, e),
         SourceExpression::Binary(_, e, f) => {
             expression(names, e)?;
             expression(names, f)

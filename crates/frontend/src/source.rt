@@ -8,6 +8,7 @@ ghost use Rattle.frontend.specs.Sources.{IsDesignOf, IsSourceFault, IsFaultOfMod
 
 use design::Design;
 use elaborate::{ElabFault, elaborate_owned};
+use model::limits::ModuleLimits;
 use model::tree::Module;
 use std::alloc::Global;
 use thiserror::Error;
@@ -46,7 +47,7 @@ fn designed(alloc: Global, parsed: Module) -> Result<Design, SourceFault>
     ensures names { IfOk result (λ d. d.names ≡ map (λ x. x.0) (declared (module_of parsed))) }
     ensures fault { IfErr result (IsFaultOfModule (faults (module_of parsed))) }
 {
-    match elaborate_owned(alloc, parsed) {
+    match elaborate_owned(alloc, ModuleLimits::Profile, parsed) {
         Ok(design) => Ok(design),
         Err(fault) => Err(SourceFault::Elaborate(fault)),
     }

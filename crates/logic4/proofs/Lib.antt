@@ -8,5 +8,8 @@ pub mod Pairs
 pub mod Places
 pub mod Marks
 pub mod Texts
+pub mod Bytes
+pub mod Extended
+pub mod Signs
 pub mod Lengths
 pub mod Widths

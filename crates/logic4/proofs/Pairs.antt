@@ -38,8 +38,8 @@ pub negated : {v : Vector} {w a b : ℕ} → AreWords w a b → of_words w a b �
 negated {w = w} {a = a} {b = b} p view m mask =
     sym (ruled not_rule w m a b a b mask) ∙ sym (each_digit-twice not_digit (of_words w a b)) ∙ ap not_vector view
 
-either_zero : (b d : ℕ) → bit_or b d ≡ 0 → (b ≡ 0) × (d ≡ 0)
-either_zero b d h = (omega (arith, le_or_l b d), omega (arith, le_or_r b d))
+pub both_zero : (b d : ℕ) → bit_or b d ≡ 0 → (b ≡ 0) × (d ≡ 0)
+both_zero b d h = (omega (arith, le_or_l b d), omega (arith, le_or_r b d))
 
 -- a vector whose second word is 0
 pub is_known_at : {v : Vector} {w a b : ℕ} → AreWords w a b → of_words w a b ≡ v → b ≡ 0 → is_known v ≡ true
@@ -76,7 +76,7 @@ module _ {v u : Vector} {w a b n c d : ℕ} (p : AreWords w a b) (q : AreWords n
       sym (ruled r w m a b c d mask) ∙ (λ k. each_pair f (view k) (shifted k))
 
   pub both_known : bit_or b d ≡ 0 → (is_known v && is_known u) ≡ true
-  both_known h = and_from _ _ (is_known_at p view (either_zero b d h).0) (is_known_at q other (either_zero b d h).1)
+  both_known h = and_from _ _ (is_known_at p view (both_zero b d h).0) (is_known_at q other (both_zero b d h).1)
 
   pub one_unknown : bit_or b d ≢ 0 → (is_known v && is_known u) ≡ false
   one_unknown h =
@@ -101,10 +101,10 @@ module _ {v u : Vector} {w a b n c d : ℕ} (p : AreWords w a b) (q : AreWords n
 
   module _ (h : bit_or b d ≡ 0) where
     left_number : number v ≡ a
-    left_number = number_at p view (either_zero b d h).0
+    left_number = number_at p view (both_zero b d h).0
 
     right_number : number u ≡ c
-    right_number = number_at q other (either_zero b d h).1
+    right_number = number_at q other (both_zero b d h).1
 
     pub less : bool_digit (ltb a c) ≡ lt_vector v u
     less = known_digit_where h (ltb a c) ∙ ap (digit_where_known v u) (sym (λ k. ltb (left_number k) (right_number k)))

@@ -1,17 +1,20 @@
 -- The texts of vectors of words.
-use Rattle.std.proofs.Common.{◌≡◌, ◌≢◌, ℕ, zero, suc, ◌+◌, ◌-◌, ◌*◌, ◌^◌, ◌<◌, ◌≤◌, min, bit_and, true, false, List, [], ◌∷◌, ◌++◌, length, take, drop, refl, sym, ◌∙◌, ap, arith}
+use Rattle.std.proofs.Common.{◌≡◌, ◌≢◌, ℕ, zero, suc, ◌+◌, ◌-◌, ◌^◌, ◌<◌, ◌≤◌, min, bit_and, Bool, true, false, ◌&&◌, cond, List, [], ◌∷◌, ◌++◌, length, take, drop, replicate, refl, sym, ◌∙◌, ap, arith}
 use lib.Pow.{pow_mono}
 use Rattle.std.proofs.lemmas.Nat.{and_le_l}
 use Rattle.std.proofs.lemmas.Nat.Bits.{bit_at-lt, bit_at_and, bit_at-zero}
-use Rattle.std.proofs.lemmas.List.{drop_more, drop-drop, take_min, length-drop}
+use Rattle.std.proofs.lemmas.List.{drop_more, drop-drop, drop_all, take_min, length-drop, replicate-append-replicate}
 use Rattle.std.proofs.lemmas.Bool.{cond_below, cond_above}
-use Rattle.std.specs.Prelude.{decimal}
+use Rattle.std.specs.Prelude.{decimal, nat_eq}
 use Rattle.std.specs.Int.{bit_at}
 use Rattle.std.specs.List.{list_all, list_any}
 use Rattle.logic4.specs.declared.digit.Digit.TheVariants.{X}
 use Rattle.logic4.specs.Vector.{Vector, is_known, number}
 use Rattle.logic4.specs.Operators.{select_digit}
-use Rattle.logic4.specs.Display.{is_x, is_z, digit_text, binary_text, unknown_text, hex_digit_text, hex_group_text, hex_text, decimal_text}
+use Rattle.logic4.specs.declared.conversion.LeadingZeros.{LeadingZeros}
+use Rattle.logic4.specs.declared.conversion.LeadingZeros.TheVariants.{Shown, Dropped}
+use Rattle.logic4.specs.Display.{is_x, is_z, digit_text, binary_text, unknown_text, octal_text, hex_digit_text, hex_group_text, hex_text, decimal_text, without_zeros}
+use Rattle.logic4.specs.Leading.{led, behind_zero, put_behind}
 use Rattle.logic4.specs.VectorWords.{AreWords, pair_digit, of_words}
 use Rattle.logic4.proofs.Pairs.{width_is, is_known_at, is_unknown_at, number_at}
 use Rattle.logic4.proofs.Marks.{Marks, all_marked, not_all_marked, none_marked, one_marked}
@@ -124,36 +127,90 @@ module _ {v : Vector} {w a b : ℕ} (p : AreWords w a b) (view : of_words w a b 
 
 -- ---- one digit or group more
 
+short_one : (e : Bool) (x y : List ℕ) → cond (e && true) x y ≡ cond e x y
+short_one true x y = refl
+short_one false x y = refl
+
+short_two : (e : Bool) (c d b : ℕ) (ds w w' : List ℕ) → e ≡ nat_eq c 48 → behind_zero w b ≡ w'
+    → behind_zero (cond e w (c ∷ d ∷ ds)) b ≡ cond e w' (c ∷ d ∷ (ds ++ b ∷ []))
+short_two true c d b ds w w' e h = h
+short_two false c d b ds w w' e h = ap (λ t. cond (t && false) (b ∷ []) (c ∷ d ∷ (ds ++ b ∷ []))) (sym e)
+
+short_more : (c : ℕ) (cs : List ℕ) (b : ℕ) → behind_zero (without_zeros cs) b ≡ without_zeros (cs ++ b ∷ [])
+    → behind_zero (without_zeros (c ∷ cs)) b ≡ without_zeros (c ∷ (cs ++ b ∷ []))
+short_more c [] b h = short_one (nat_eq c 48) (b ∷ []) (c ∷ b ∷ [])
+short_more c (d ∷ ds) b h = short_two (nat_eq c 48) c d b ds (without_zeros (d ∷ ds)) (without_zeros (d ∷ (ds ++ b ∷ []))) refl h
+
+-- a letter behind a text without its zeros at the front
+short_step : (text : List ℕ) (letter : ℕ) → behind_zero (without_zeros text) letter ≡ without_zeros (text ++ letter ∷ [])
+short_step [] letter = refl
+short_step (c ∷ cs) letter = short_more c cs letter (short_step cs letter)
+
+pub led_step : (zeros : LeadingZeros) (text : List ℕ) (letter : ℕ) → put_behind zeros (led zeros text) letter ≡ led zeros (text ++ letter ∷ [])
+led_step Shown text letter = refl
+led_step Dropped text letter = short_step text letter
+
 pub binary_step : (v : Vector) (i : ℕ) → i < length v → binary_text (drop (i + 1) v) ++ digit_text (select_digit v i) ≡ binary_text (drop i v)
 binary_step v i h = sym (ap binary_text (drop_more v i X h))
 
-hex_front : (v : Vector) → 0 < length v → hex_text (drop 4 v) ++ hex_group_text (take 4 v) ≡ hex_text v
+pub hex_front : (v : Vector) → 0 < length v → hex_text (drop 4 v) ++ hex_group_text (take 4 v) ≡ hex_text v
 hex_front [] h = absurd (omega arith)
 hex_front (a ∷ []) h = refl
 hex_front (a ∷ b ∷ []) h = refl
 hex_front (a ∷ b ∷ c ∷ []) h = refl
 hex_front (a ∷ b ∷ c ∷ d ∷ v) h = refl
 
-pub hex_step : (v : Vector) (k : ℕ) → 4 * k < length v
-    → hex_text (drop (4 * (k + 1)) v) ++ hex_group_text (take (min 4 (length v - 4 * k)) (drop (4 * k) v)) ≡ hex_text (drop (4 * k) v)
-hex_step v k h =
-    let rest : Vector = drop (4 * k) v in
-    let next : 4 * (k + 1) ≡ 4 * k + 4 = omega arith in
-    let len : length v - 4 * k ≡ length rest = sym (length-drop (4 * k) v) in
-    (λ i. hex_text (drop (next i) v) ++ hex_group_text (take (min 4 (len i)) rest))
-    ∙ sym (λ i. hex_text (drop-drop 4 (4 * k) v i) ++ hex_group_text (take (min 4 (length rest)) rest))
-    ∙ ap (λ t. hex_text (drop 4 rest) ++ hex_group_text t) (take_min 4 rest)
-    ∙ hex_front rest (omega arith)
+pub octal_front : (v : Vector) → 0 < length v → octal_text (drop 3 v) ++ hex_group_text (take 3 v) ≡ octal_text v
+octal_front [] h = absurd (omega arith)
+octal_front (a ∷ []) h = refl
+octal_front (a ∷ b ∷ []) h = refl
+octal_front (a ∷ b ∷ c ∷ v) h = refl
 
--- the text before a group of the vector u, and the group's letter
-pub hex_push : (v u : Vector) (g n letter : ℕ) (old : List ℕ) → 0 < g → 4 * (g - 1) < length v → u ≡ take n (drop (4 * (g - 1)) v)
-    → n ≡ min (length v - 4 * (g - 1)) 4 → old ≡ hex_text (drop (4 * g) v) → letter ∷ [] ≡ hex_group_text u
-    → old ++ letter ∷ [] ≡ hex_text (drop (4 * (g - 1)) v)
-hex_push v u g n letter old some within part width text group =
-    let next : g ≡ g - 1 + 1 = omega arith in
-    let turned : n ≡ min 4 (length v - 4 * (g - 1)) = omega arith in
-    (λ i. text i ++ group i) ∙ (λ i. hex_text (drop (4 * next i) v) ++ hex_group_text (part i))
-    ∙ ap (λ k. hex_text (drop (4 * (g - 1 + 1)) v) ++ hex_group_text (take k (drop (4 * (g - 1)) v))) turned ∙ hex_step v (g - 1) within
+-- a text that is made of groups of s digits
+module _ (text group : Vector → List ℕ) (s : ℕ) (front : (v : Vector) → 0 < length v → text (drop s v) ++ group (take s v) ≡ text v) where
+  pub group_step : (v : Vector) (at next : ℕ) → next ≡ at + s → at < length v
+      → text (drop next v) ++ group (take (min (length v - at) s) (drop at v)) ≡ text (drop at v)
+  group_step v at next e h =
+      let rest : Vector = drop at v in
+      let len : length v - at ≡ length rest = sym (length-drop at v) in
+      let turned : min (length v - at) s ≡ min s (length rest) = omega (arith, len) in
+      (λ i. text (drop (e i) v) ++ group (take (turned i) rest))
+      ∙ sym (λ i. text (drop-drop s at v i) ++ group (take (min s (length rest)) rest))
+      ∙ ap (λ t. text (drop s rest) ++ group t) (take_min s rest)
+      ∙ front rest (omega (arith, len))
+
+  -- the text before a group of the vector u, and the group's letter
+  pub group_push : (zeros : LeadingZeros) (v u : Vector) (at next n letter : ℕ) (old : List ℕ) → next ≡ at + s → at < length v
+      → u ≡ take n (drop at v) → n ≡ min (length v - at) s → old ≡ led zeros (text (drop next v)) → letter ∷ [] ≡ group u
+      → put_behind zeros old letter ≡ led zeros (text (drop at v))
+  group_push zeros v u at next n letter old e within part width before mark =
+      let whole : text (drop next v) ++ letter ∷ [] ≡ text (drop at v) =
+      ap (λ t. text (drop next v) ++ t) mark ∙ ap (λ t. text (drop next v) ++ group t) part
+      ∙ ap (λ k. text (drop next v) ++ group (take k (drop at v))) width ∙ group_step v at next e within in
+      ap (λ t. put_behind zeros t letter) before ∙ led_step zeros (text (drop next v)) letter ∙ ap (led zeros) whole
+
+-- the text before a digit, and its letter
+pub binary_push : (zeros : LeadingZeros) (v : Vector) (i next letter : ℕ) (old : List ℕ) → next ≡ i + 1 → i < length v
+    → old ≡ led zeros (binary_text (drop next v)) → letter ∷ [] ≡ digit_text (select_digit v i)
+    → put_behind zeros old letter ≡ led zeros (binary_text (drop i v))
+binary_push zeros v i next letter old e within before mark =
+    let whole : binary_text (drop next v) ++ letter ∷ [] ≡ binary_text (drop i v) =
+    ap (λ t. binary_text (drop next v) ++ t) mark ∙ ap (λ k. binary_text (drop k v) ++ digit_text (select_digit v i)) e ∙ binary_step v i within in
+    ap (λ t. put_behind zeros t letter) before ∙ led_step zeros (binary_text (drop next v)) letter ∙ ap (led zeros) whole
+
+led_nothing : (zeros : LeadingZeros) → [] ≡ led zeros []
+led_nothing Shown = refl
+led_nothing Dropped = refl
+
+-- the text before the first letter
+pub led_start : (text : Vector → List ℕ) (zeros : LeadingZeros) (v : Vector) (n : ℕ) (old : List ℕ) → text [] ≡ [] → old ≡ [] → length v ≤ n
+    → old ≡ led zeros (text (drop n v))
+led_start text zeros v n old none empty past =
+    empty ∙ led_nothing zeros ∙ sym (ap (led zeros) (ap text (drop_all n v past) ∙ none))
+
+-- one blank more
+pub blank_more : (n : ℕ) (old new : List ℕ) → old ≡ replicate n 32 → new ≡ old ++ 32 ∷ [] → new ≡ replicate (n + 1) 32
+blank_more n old new before one = one ∙ ap (λ t. t ++ 32 ∷ []) before ∙ replicate-append-replicate n 1 32
 
 -- what a push of an ASCII letter leaves
 pub pushed : (new old bytes : List ℕ) (char letter : ℕ) → new ≡ old ++ bytes → (char < 128 → bytes ≡ char ∷ []) → char ≡ letter → letter < 128

@@ -1,17 +1,20 @@
 //! `Bits`, a vector held as two words.
 #![tactic(auto, using(crate::proofs::Widths::widths))]
 
-ghost use Rattle.std.specs.Prelude.{◌≡◌, ◌+◌, ◌-◌, ◌^◌, ◌<◌, ◌≤◌, [], ◌∷◌, length};
+ghost use Rattle.std.specs.Prelude.{◌≡◌, ◌+◌, ◌-◌, ◌^◌, ◌<◌, ◌≤◌, [], ◌∷◌, length, replicate};
 ghost use Rattle.logic4.specs.Vector.{Vector, unknown as unknown_of, vector, resize as resized, greatest_width};
+ghost use Rattle.logic4.specs.Extensions.{extend_vector, sign_extended};
 ghost use Rattle.logic4.specs.Operators.{bool_digit, concat_vector, select_digit};
 ghost use Rattle.logic4.specs.VectorWords.{AreWords, of_words, first_word, second_word};
 
 mod arithmetic;
 mod bitwise;
+mod characters;
 mod compare;
+mod decimals;
 mod display;
 
-use crate::digit::Digit;
+use crate::digit::{Digit, Extension};
 use std::marker::Model;
 
 /// A word of `Bits::words`: bit i belongs to digit i.
@@ -134,6 +137,34 @@ impl Bits {
         }
     }
 
+    // a digit at each place
+    fn repeated(width: u32, digit: Digit) -> Self
+        requires some { 1 ≤ width }
+        requires within { width ≤ greatest_width }
+        ensures value { result ≡ replicate width digit }
+        ensures width { length result ≡ width }
+    {
+        let all = mask(width);
+        match digit {
+            Digit::Zero => Bits { width, a: 0, b: 0 },
+            Digit::One => Bits {
+                width,
+                a: all,
+                b: 0,
+            },
+            Digit::X => Bits {
+                width,
+                a: all,
+                b: all,
+            },
+            Digit::Z => Bits {
+                width,
+                a: 0,
+                b: all,
+            },
+        }
+    }
+
     // one digit, 1 where the test holds and else 0
     fn from_bool(test: bool) -> Self
         ensures value { result ≡ bool_digit test ∷ [] }
@@ -220,6 +251,34 @@ impl Bits {
             width,
             a: self.a & ones,
             b: self.b & ones,
+        }
+    }
+
+    // Extended with copies of its most significant digit, or cut to its least significant ones.
+    fn sign_extend(self, width: u32) -> Self
+        requires some { 1 ≤ width }
+        requires within { width ≤ greatest_width }
+        ensures value { result ≡ sign_extended width self }
+        ensures width { length result ≡ width }
+    {
+        let own = self.width();
+        if width <= own {
+            return self.resize(width);
+        }
+        let sign = self.digit(own - 1);
+        Bits::concat(Bits::repeated(width - own, sign), self)
+    }
+
+    /// Extended by its sign or with digits 0, or cut to the least significant digits (5.4, 5.5.4). `width` is 1 to `MAX_WIDTH`.
+    pub fn extend(self, by: Extension, width: u32) -> Self
+        requires some { 1 ≤ width }
+        requires within { width ≤ greatest_width }
+        ensures value { result ≡ extend_vector by width self }
+        ensures width { length result ≡ width }
+    {
+        match by {
+            Extension::Zeros => self.resize(width),
+            Extension::Sign => self.sign_extend(width),
         }
     }
 

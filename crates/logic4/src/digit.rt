@@ -1,4 +1,4 @@
-//! The four logic values, the truth of a vector, and the kinds of a change.
+//! The four logic values, the truth of a vector, the kinds of a change, and the digits that extend a vector.
 
 /// One digit of a vector (IEEE 1364-2005, 4.1).
 #[derive(Clone, Copy, PartialEq, Eq, Debug)]
@@ -35,4 +35,13 @@ pub enum Edge {
     Neg,
     /// A change without an edge.
     Other,
+}
+
+/// The digits by which a vector is extended to a greater width (5.4, 5.5.4).
+#[derive(Clone, Copy, PartialEq, Eq, Debug)]
+pub enum Extension {
+    /// 0.
+    Zeros,
+    /// Copies of the most significant digit, which is the sign. It may be x or z.
+    Sign,
 }

@@ -7,7 +7,7 @@
 //! 3. Arithmetic and order work on the first word where both second words are 0, and give x otherwise (5.1.5, 5.1.7).
 //! 4. Equality compares words: `==` is case equality, `eq` the logical one (5.1.8).
 //! 5. `truth` is what a condition sees (9.4), `edge` what an event control sees (9.7.2).
-//! 6. `show_b`, `show_h` and `show_d0` are the texts of `$display` (17.1.1), the only calls that allocate.
+//! 6. `show` is the text of `$display` by a conversion (17.1.1); it and its kin are the only calls that allocate.
 //!
 //! What the layer above uses: a `Bits` is the list of its digits, the least significant first (`specs/Vector.antt`), and each
 //! operation ensures `result ≡` its definition by tables of digits or whole numbers (`specs/Operators.antt`, `specs/Edges.antt`,
@@ -15,7 +15,11 @@
 #![tactic(auto)]
 
 pub mod bits;
+pub mod conversion;
 pub mod digit;
+pub mod size;
 
 pub use bits::{Bits, MAX_WIDTH};
-pub use digit::{Digit, Edge, Truth};
+pub use conversion::Conversion;
+pub use digit::{Digit, Edge, Extension, Truth};
+pub use size::Size;

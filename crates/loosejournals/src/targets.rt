@@ -41,6 +41,7 @@ fn add_targets_in(targets: &mut Vec<RegId>, statement: &Statement) -> Result<(),
         Statement::Empty => {}
         Statement::Assign(_, _) => {}
         Statement::AssignAfter(_, _, _) => {}
+        Statement::Now(_) => {}
         Statement::Print(_, _, _) => {}
         Statement::Finish => {}
     }

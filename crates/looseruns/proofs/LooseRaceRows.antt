@@ -3,14 +3,15 @@
 use Rattle.std.specs.Prelude.{◌≡◌, ℕ, true, false, List, [], ◌∷◌, ◌++◌, codes, refl, Option, Some, None}
 use Rattle.std.proofs.lemmas.List.Elements.{All-from_recursion}
 use Rattle.logic4.specs.declared.digit.Digit.TheVariants.{One}
-use Rattle.logic4.specs.Display.{Binary}
+use Rattle.logic4.specs.declared.conversion.Conversion.TheVariants.{Binary}
 use Rattle.model.specs.declared.tree.Task.TheVariants as Task
 use Rattle.model.specs.declared.tree.Change.TheVariants.{Any}
 use Rattle.model.specs.declared.entry.Entry.TheVariants.{ActivateNba}
 use Rattle.model.specs.declared.end.Limits.{Limits}
 use Rattle.model.specs.declared.end.End.TheVariants.{Quiet}
 use Rattle.model.specs.Syntax.{Register, Literal, Nothing, Also}
-use Rattle.model.specs.Design.{Design, Process, Statement, AssignLater, Await, Print, Statements, End, Then, Argument}
+use Rattle.model.specs.Design.{Design, Process, Statement, AssignLater, Await, Print, Statements, End, Then}
+use Rattle.model.specs.Syntax.{Argument}
 use Rattle.model.specs.Turns.{turn_within}
 use Rattle.model.specs.Runs.{Effect, is_quiet}
 use Rattle.loose.specs.declared.transition.LooseTransition.{LooseTransition}

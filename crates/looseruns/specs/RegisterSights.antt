@@ -3,7 +3,8 @@ use Rattle.std.specs.Prelude.{◌≡◌, ◌≢◌, ℕ, ◌<◌, ◌≤◌, Lis
 use Rattle.std.specs.List.{All}
 use Rattle.model.specs.declared.entry.Entry.{Entry}
 use Rattle.model.specs.declared.entry.Entry.TheVariants.{Advance}
-use Rattle.model.specs.Design.{Design, Piece, Byte, Argument, Statement, Print, statement_at}
+use Rattle.model.specs.Design.{Design, Statement, Print, statement_at}
+use Rattle.model.specs.Syntax.{Piece, Byte, Argument}
 use Rattle.model.specs.Expressions.{value_of}
 use Rattle.model.specs.States.{State}
 use Rattle.model.specs.Runs.{Effect, step, run, last_time}

@@ -8,12 +8,12 @@ use Rattle.logic4.specs.declared.digit.Truth.{Truth}
 use Rattle.logic4.specs.declared.digit.Truth.TheVariants.{False, True, Unknown}
 use Rattle.logic4.specs.Vector.{Vector}
 use Rattle.logic4.specs.Operators.{truth}
-use Rattle.model.specs.declared.tree.Task.TheVariants.{Display, Strobe}
+use Rattle.model.specs.declared.tree.Task.TheVariants.{Display, Strobe, Write}
 use Rattle.model.specs.Syntax.{Expression, registers_of, all_registers_of}
-use Rattle.model.specs.Design.{Design, Statement, Empty, Assign, AssignAfter, AssignLater, Delay, Await, If, While, Print, Finish, Statements, size, statement_at, process_at}
+use Rattle.model.specs.Design.{Design, Statement, Empty, Assign, AssignAfter, AssignLater, Now, Delay, Await, If, While, Print, Finish, Statements, size, statement_at, process_at}
 use Rattle.model.specs.Expressions.{Store, own_value, assigned_value}
-use Rattle.model.specs.Turns.{At, Set, Remainder, Wait, Ended, OnChange, NonblockingAssignment, Turn, Going, Over, begun, contains, with_uses, counted, goes_on, stops, delayed, parts, whole, own_values, line_text, where_true, condition_truth, after_statement, next, and_then, turn_within, IsTurn}
-use Rattle.model.specs.TurnCases.{all_but, first_uses, over_at_once, with_step, with_write, with_later, with_line, with_strobe, HasTurn, nothing, assigned, left_over, assigned_after, assigned_later, delay, event, chosen, other, again, past, displayed, strobed, finished, ended, restarted, TurnByCasesIsExact, ShortTurnByCasesIsExact, TurnByCasesIsUnique, UsedUpIsWholeAgain}
+use Rattle.model.specs.Turns.{At, Set, Remainder, Wait, Ended, OnChange, NonblockingAssignment, Turn, Going, Over, begun, contains, with_uses, counted, goes_on, stops, delayed, parts, whole, own_values, line_text, written_text, time_value, where_true, condition_truth, after_statement, next, and_then, turn_within, IsTurn}
+use Rattle.model.specs.TurnCases.{all_but, first_uses, over_at_once, with_step, with_write, with_later, with_line, with_strobe, HasTurn, nothing, assigned, timed, left_over, assigned_after, assigned_later, delay, event, chosen, other, again, past, displayed, text_written, strobed, finished, ended, restarted, TurnByCasesIsExact, ShortTurnByCasesIsExact, TurnByCasesIsUnique, UsedUpIsWholeAgain}
 use Rattle.model.proofs.TurnLaws.{turn_unique, short_turn_found, short_turn_is}
 
 -- filters
@@ -230,6 +230,14 @@ statement_found k design p now g place (AssignLater r d x) rest turn at later e 
       assigned_later place r d x rest g.values t at has,
       same ∙ continued_later h rest l t ∙ continued_step g (registers_of x) (with_later l t),
     )
+statement_found k design p now g place (Now r) rest turn at later e =
+    let v : Vector = time_value design.widths r now in
+    let h : Going = counted [] g in
+    let (t, d, same) = later (record h { left = rest; values = slice_set g.values r v; writes = g.writes ++ (r, v) ∷ [] }) e in (
+      with_step [] (with_write r v t),
+      timed place r rest g.values t at d,
+      same ∙ continued_write h rest (slice_set g.values r v) r v t ∙ continued_step g [] (with_write r v t),
+    )
 statement_found k design p now g place (Delay d body) rest turn at later e = (
   with_step [] (over_at_once (parts (place + 1) body ++ rest) (delayed now d) false),
   delay place d body rest g.values at,
@@ -251,6 +259,14 @@ statement_found k design p now g place (Print Display format arguments) rest tur
       with_step (all_registers_of arguments) (with_line line t),
       displayed place format arguments rest g.values t at d,
       same ∙ continued_line h rest line t ∙ continued_step g (all_registers_of arguments) (with_line line t),
+    )
+statement_found k design p now g place (Print Write format arguments) rest turn at later e =
+    let text : List ℕ = written_text format (own_values design.widths g.values arguments) in
+    let h : Going = counted (all_registers_of arguments) g in
+    let (t, d, same) = later (record h { left = rest; lines = g.lines ++ text }) e in (
+      with_step (all_registers_of arguments) (with_line text t),
+      text_written place format arguments rest g.values t at d,
+      same ∙ continued_line h rest text t ∙ continued_step g (all_registers_of arguments) (with_line text t),
     )
 statement_found k design p now g place (Print Strobe format arguments) rest turn at later e =
     let h : Going = counted [] g in
@@ -333,6 +349,15 @@ leads design p now _ _ _ (assigned place r x rest store turn at d) g =
     leads_on design p now h begin turn (with_step (registers_of x) (with_write r v turn)) (leads design p now rest (slice_set store r v) turn d h)
     (continued_write step rest (slice_set store r v) r v turn ∙ continued_step begin (registers_of x) (with_write r v turn)) in
     (on.0, rw at on.1)
+leads design p now _ _ _ (timed place r rest store turn at d) g =
+    let v : Vector = time_value design.widths r now in
+    let begin : Going = record g { values = store } in
+    let step : Going = counted [] begin in
+    let h : Going = record step { left = rest; values = slice_set store r v; writes = g.writes ++ (r, v) ∷ [] } in
+    let on : (k : ℕ) × (turn_within k design p now h ≡ Some (continued begin (with_step [] (with_write r v turn)))) =
+    leads_on design p now h begin turn (with_step [] (with_write r v turn)) (leads design p now rest (slice_set store r v) turn d h)
+    (continued_write step rest (slice_set store r v) r v turn ∙ continued_step begin [] (with_write r v turn)) in
+    (on.0, rw at on.1)
 leads design p now _ _ _ (left_over r v rest store turn d) g =
     let begin : Going = record g { values = store } in
     let step : Going = counted [] begin in
@@ -391,6 +416,15 @@ leads design p now _ _ _ (displayed place format arguments rest store turn at d)
     let on : (k : ℕ) × (turn_within k design p now h ≡ Some (continued begin (with_step (all_registers_of arguments) (with_line line turn)))) =
     leads_on design p now h begin turn (with_step (all_registers_of arguments) (with_line line turn)) (leads design p now rest store turn d h)
     (continued_line step rest line turn ∙ continued_step begin (all_registers_of arguments) (with_line line turn)) in
+    (on.0, rw at on.1)
+leads design p now _ _ _ (text_written place format arguments rest store turn at d) g =
+    let text : List ℕ = written_text format (own_values design.widths store arguments) in
+    let begin : Going = record g { values = store } in
+    let step : Going = counted (all_registers_of arguments) begin in
+    let h : Going = record step { left = rest; lines = g.lines ++ text } in
+    let on : (k : ℕ) × (turn_within k design p now h ≡ Some (continued begin (with_step (all_registers_of arguments) (with_line text turn)))) =
+    leads_on design p now h begin turn (with_step (all_registers_of arguments) (with_line text turn)) (leads design p now rest store turn d h)
+    (continued_line step rest text turn ∙ continued_step begin (all_registers_of arguments) (with_line text turn)) in
     (on.0, rw at on.1)
 leads design p now _ _ _ (strobed place format arguments rest store turn at d) g =
     let begin : Going = record g { values = store } in

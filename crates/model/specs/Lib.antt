@@ -1,3 +1,4 @@
+pub mod ModuleLimits
 pub mod Syntax
 pub mod SourceTrees
 pub mod Design

@@ -12,7 +12,9 @@ use Rattle.model.specs.declared.tree.SourceStatement as statement
 use Rattle.model.specs.declared.tree.SourceStatement.{fold-SourceStatement}
 use Rattle.model.specs.declared.tree.SourceStatement.TheOpen.{SourceStatement-F}
 use Rattle.model.specs.declared.tree.Change.{Change}
-use Rattle.model.specs.Syntax.{Text, Expression, Register, Select, Literal, Concat, Unary, Binary, Conditional, Expressions, Nothing, Also, SourceStatement, Empty, Block, Assign, AssignLater, Delay, Await, If, IfElse, While, Print, Finish, SourceStatements, End, Then, Declaration, SourceProcess, Module}
+use Rattle.model.specs.declared.tree.Piece as piece
+use Rattle.model.specs.declared.tree.Piece.TheVariants as pieces
+use Rattle.model.specs.Syntax.{Text, Expression, Register, Select, Literal, Concat, Unary, Binary, Conditional, Extend, Expressions, Nothing, Also, Piece, Byte, Argument, SourceStatement, Empty, Block, Assign, AssignLater, Now, Delay, Await, If, IfElse, While, Print, PrintPieces, Finish, SourceStatements, End, Then, Declaration, SourceProcess, Module}
 
 -- the expressions of a list, in its order
 abbrev pub source_expressions : List (Expression Text) → Expressions Text
@@ -33,6 +35,7 @@ source_expression_node (SourceExpression-F.Concat first others) = Concat (Also (
 source_expression_node (SourceExpression-F.Unary op e) = Unary op (box_value e)
 source_expression_node (SourceExpression-F.Binary op e f) = Binary op (box_value e) (box_value f)
 source_expression_node (SourceExpression-F.Conditional c e f) = Conditional (box_value c) (box_value e) (box_value f)
+source_expression_node (SourceExpression-F.Extend by size e) = Extend by size (box_value e)
 
 -- the plain tree of an expression
 abbrev pub source_expression_of : expression.SourceExpression → Expression Text
@@ -42,18 +45,25 @@ source_expression_of = fold-SourceExpression (Expression Text) source_expression
 abbrev pub source_trigger_of : event.EventExpression → Change × Text
 source_trigger_of e = (e.change, string_bytes e.name)
 
+-- a piece of a format
+abbrev pub piece_of : piece.Piece → Piece
+piece_of (pieces.Byte b) = Byte b
+piece_of (pieces.Argument c) = Argument c
+
 -- one node of a statement, with each statement inside it already the plain one
 abbrev pub source_statement_node : SourceStatement-F SourceStatement → SourceStatement
 source_statement_node SourceStatement-F.Empty = Empty
 source_statement_node (SourceStatement-F.Block body) = Block (source_statements body.items)
 source_statement_node (SourceStatement-F.Assign name delay e) = Assign (string_bytes name) delay (source_expression_of e)
 source_statement_node (SourceStatement-F.AssignLater name delay e) = AssignLater (string_bytes name) delay (source_expression_of e)
+source_statement_node (SourceStatement-F.Now name) = Now (string_bytes name)
 source_statement_node (SourceStatement-F.Delay delay s) = Delay delay (box_value s)
 source_statement_node (SourceStatement-F.Await events s) = Await (map source_trigger_of events.items) (box_value s)
 source_statement_node (SourceStatement-F.If c body) = If (source_expression_of c) (source_statements body.items)
 source_statement_node (SourceStatement-F.IfElse c body other) = IfElse (source_expression_of c) (source_statements body.items) (source_statements other.items)
 source_statement_node (SourceStatement-F.While c body) = While (source_expression_of c) (source_statements body.items)
 source_statement_node (SourceStatement-F.Print task format arguments) = Print task format.items (source_expressions (map source_expression_of arguments.items))
+source_statement_node (SourceStatement-F.PrintPieces task format arguments) = PrintPieces task (map piece_of format.items) (source_expressions (map source_expression_of arguments.items))
 source_statement_node SourceStatement-F.Finish = Finish
 
 -- the plain tree of a statement

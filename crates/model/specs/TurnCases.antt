@@ -5,11 +5,12 @@ use Rattle.std.specs.Prelude.{◌≡◌, ◌≢◌, ◌↔◌, ℕ, ◌+◌, Boo
 use Rattle.logic4.specs.declared.digit.Truth.TheVariants.{True}
 use Rattle.logic4.specs.Vector.{Vector}
 use Rattle.logic4.specs.Operators.{truth}
-use Rattle.model.specs.declared.tree.Task.TheVariants.{Display, Strobe}
+use Rattle.model.specs.declared.tree.Task.TheVariants.{Display, Strobe, Write}
 use Rattle.model.specs.Syntax.{Expression, Expressions, registers_of, all_registers_of}
-use Rattle.model.specs.Design.{Design, Empty, Assign, AssignAfter, AssignLater, Delay, Await, If, While, Print, Finish, Statements, Trigger, Piece, size, statement_at, process_at}
+use Rattle.model.specs.Design.{Design, Empty, Assign, AssignAfter, AssignLater, Now, Delay, Await, If, While, Print, Finish, Statements, Trigger, size, statement_at, process_at}
+use Rattle.model.specs.Syntax.{Piece}
 use Rattle.model.specs.Expressions.{Store, own_value, assigned_value}
-use Rattle.model.specs.Turns.{At, Set, Remainder, Wait, Ended, OnChange, NonblockingAssignment, Turn, parts, whole, own_values, line_text, delayed, IsTurn, IsShort, short_turn}
+use Rattle.model.specs.Turns.{At, Set, Remainder, Wait, Ended, OnChange, NonblockingAssignment, Turn, parts, whole, own_values, line_text, written_text, time_value, delayed, IsTurn, IsShort, short_turn}
 
 -- the registers without one of them
 abbrev pub all_but : ℕ → List ℕ → List ℕ
@@ -37,7 +38,7 @@ with_write r v turn = record turn { uses = all_but r turn.uses; writes = (r, v) 
 abbrev pub with_later : NonblockingAssignment → Turn → Turn
 with_later later turn = record turn { nbas = later ∷ turn.nbas }
 
--- the turn with a line before it
+-- the turn with a print before it
 abbrev pub with_line : List ℕ → Turn → Turn
 with_line line turn = record turn { lines = line ++ turn.lines }
 
@@ -58,6 +59,11 @@ pub data HasTurn (design : Design) (p now : ℕ) : Remainder → Store → Turn 
       → statement_at design place ≡ Assign r e
       → HasTurn design p now rest (slice_set store r (assigned_value design.widths store r e)) turn
       → HasTurn design p now (At place ∷ rest) store (with_step (registers_of e) (with_write r (assigned_value design.widths store r e) turn))
+  -- `r = $time;` writes the time of the turn (17.7.1).
+  timed : (place r : ℕ) (rest : Remainder) (store : Store) (turn : Turn)
+      → statement_at design place ≡ Now r
+      → HasTurn design p now rest (slice_set store r (time_value design.widths r now)) turn
+      → HasTurn design p now (At place ∷ rest) store (with_step [] (with_write r (time_value design.widths r now) turn))
   -- What is left over from `r = #d e;` writes the value that was computed before its wait (9.7.7).
   left_over : (r : ℕ) (v : Vector) (rest : Remainder) (store : Store) (turn : Turn)
       → HasTurn design p now rest (slice_set store r v) turn
@@ -106,6 +112,12 @@ pub data HasTurn (design : Design) (p now : ℕ) : Remainder → Store → Turn 
       → HasTurn design p now rest store turn
       → HasTurn design p now (At place ∷ rest) store
       (with_step (all_registers_of arguments) (with_line (line_text format (own_values design.widths store arguments)) turn))
+  -- `$write(..);` prints its text, without a newline (17.1).
+  text_written : (place : ℕ) (format : List Piece) (arguments : Expressions ℕ) (rest : Remainder) (store : Store) (turn : Turn)
+      → statement_at design place ≡ Print Write format arguments
+      → HasTurn design p now rest store turn
+      → HasTurn design p now (At place ∷ rest) store
+      (with_step (all_registers_of arguments) (with_line (written_text format (own_values design.widths store arguments)) turn))
   -- `$strobe(..);` is met; its line is made when the time ends, so it reads nothing here (17.1.2).
   strobed : (place : ℕ) (format : List Piece) (arguments : Expressions ℕ) (rest : Remainder) (store : Store) (turn : Turn)
       → statement_at design place ≡ Print Strobe format arguments

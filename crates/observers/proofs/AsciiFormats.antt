@@ -6,12 +6,13 @@ use Rattle.std.proofs.Math.Seq.{drop-cons}
 use Rattle.std.proofs.lemmas.Bool.{cases_lt}
 use Rattle.std.proofs.lemmas.List.{drop_all}
 use Rattle.std.proofs.lemmas.List.Elements.{All-nil, All-cons, All-append, All-get_or}
+use Rattle.model.specs.declared.tree.Piece.{Piece}
+use Rattle.model.specs.SourceTrees.{piece_of}
 use Rattle.model.specs.Design as model
 use Rattle.model.specs.Design.{Empty, all_of, inside, all_statements}
-use Rattle.design.specs.declared.tree.Piece.{Piece}
 use Rattle.design.specs.declared.tree.Process.{Process}
 use Rattle.design.specs.declared.tree.Statement.{Statement}
-use Rattle.design.specs.DesignTrees.{piece_of, process_of, statement_of, statements_of, tree_design}
+use Rattle.design.specs.DesignTrees.{process_of, statement_of, statements_of, tree_design}
 use Rattle.looseruns.specs.RegisterSights.{IsAsciiPiece, HasAsciiFormat, PrintsNoMark}
 use Rattle.looseruns.proofs.AsciiLines.{ascii_designs_print_no_mark}
 use Rattle.observers.specs.AsciiFormats.{HasAsciiFormatsIn, HaveAsciiFormats}

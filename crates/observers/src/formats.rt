@@ -1,8 +1,9 @@
 //! The formats of a design, which are of ASCII: it prints no byte with which what is seen of registers begins.
 ghost use Rattle.std.specs.Prelude.{map};
 ghost use Rattle.std.specs.List.{All};
-ghost use Rattle.design.specs.DesignTrees.{piece_of, statement_of, statements_of};
 ghost use Rattle.design.specs.Compiled.{design_of};
+ghost use Rattle.model.specs.SourceTrees.{piece_of};
+ghost use Rattle.design.specs.DesignTrees.{statement_of, statements_of};
 ghost use Rattle.looseruns.specs.RegisterSights.{IsAsciiPiece, PrintsNoMark};
 ghost use Rattle.observers.specs.AsciiFormats.{HasAsciiFormatsIn, HaveAsciiFormats};
 ghost use Rattle.observers.specs.OneWave.{OneTextTellsRegisters};
@@ -59,6 +60,7 @@ fn has_ascii_formats(statement: &Statement)
         Statement::Assign(_, _) => {}
         Statement::AssignAfter(_, _, _) => {}
         Statement::AssignLater(_, _, _) => {}
+        Statement::Now(_) => {}
         Statement::Finish => {}
     }
 }

@@ -5,7 +5,7 @@ use Rattle.std.proofs.lemmas.Bool.{eqb-true}
 use Rattle.std.proofs.lemmas.List.Elements.{All-contains, All-from_recursion}
 use Rattle.logic4.specs.declared.digit.Digit.TheVariants.{One}
 use Rattle.logic4.specs.Vector.{Vector}
-use Rattle.logic4.specs.Display.{Binary}
+use Rattle.logic4.specs.declared.conversion.Conversion.TheVariants.{Binary}
 use Rattle.model.specs.declared.tree.Task.TheVariants.{Display}
 use Rattle.model.specs.declared.entry.Entry.{Entry}
 use Rattle.model.specs.declared.entry.Entry.TheVariants.{Update, ActivateInactive, ActivateNba, ActivateMonitor, Advance}
@@ -14,7 +14,8 @@ use Rattle.model.specs.declared.end.Why.TheVariants.{Finish, Until, Entries, Too
 use Rattle.model.specs.declared.end.End.{End}
 use Rattle.model.specs.declared.end.End.TheVariants.{Quiet, Running, Stopped}
 use Rattle.model.specs.Syntax.{Literal, Register, Nothing, Also}
-use Rattle.model.specs.Design.{Design, Process, Statement, Assign, Print, Argument, Then, End as Done}
+use Rattle.model.specs.Design.{Design, Process, Statement, Assign, Print, Then, End as Done}
+use Rattle.model.specs.Syntax.{Argument}
 use Rattle.model.specs.Turns.{Turn, Ended, turn_within}
 use Rattle.model.specs.States.{Action, Evaluate, Event, State, start, turned}
 use Rattle.model.specs.Runs.{Effect, silent, joined, step, action_in, turn_of, HasLongTurn}

@@ -8,7 +8,7 @@ use Rattle.logic4.specs.declared.digit.Truth.TheVariants.{False, True, Unknown}
 use Rattle.logic4.specs.Operators.{truth}
 use Rattle.model.specs.declared.tree.Change.TheVariants.{Any}
 use Rattle.model.specs.Syntax.{Expression, registers_of}
-use Rattle.model.specs.Design.{Design, Process, Statement, Empty, Assign, AssignAfter, AssignLater, Delay, Await, If, While, Print, Finish, Statements, End, Then, Trigger, inside, all_of, size, all_statements, statement_at, process_at, first_place}
+use Rattle.model.specs.Design.{Design, Process, Statement, Empty, Assign, AssignAfter, AssignLater, Now, Delay, Await, If, While, Print, Finish, Statements, End, Then, Trigger, inside, all_of, size, all_statements, statement_at, process_at, first_place}
 use Rattle.model.specs.Expressions.{Store, own_value, assigned_value}
 use Rattle.model.specs.Turns.{At, Remainder, Wait, OnChange, contains, parts, whole, most_steps}
 use Rattle.model.specs.Turns as turns
@@ -297,6 +297,7 @@ mutual
       (t, goes, is_chosen rest wait c body otherwise rs ws sure most (length (all_of body ++ all_of otherwise)) t sum has)
   one_goes design p now place rest left wait (AssignAfter r d e) ss rs ws sure most stands plain later store = cc
   one_goes design p now place rest left wait (AssignLater r d e) ss rs ws sure most stands plain later store = cc
+  one_goes design p now place rest left wait (Now r) ss rs ws sure most stands plain later store = cc
   one_goes design p now place rest left wait (Delay d body) ss rs ws sure most stands plain later store = cc
   one_goes design p now place rest left wait (Await ts body) ss rs ws sure most stands plain later store = cc
   one_goes design p now place rest left wait (While c body) ss rs ws sure most stands plain later store = cc

@@ -1,5 +1,6 @@
 -- Lemmas of the regions, values and steps.
 pub mod Sets
+pub mod SlotLaws
 pub mod Covers
 pub mod Changes
 pub mod Pasts

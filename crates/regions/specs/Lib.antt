@@ -1,3 +1,4 @@
+pub mod Slots
 pub mod Waiters
 pub mod ProcessWaking
 pub mod Queue

@@ -38,6 +38,7 @@ mod permit;
 mod queue;
 mod reader;
 mod region;
+mod slots;
 mod state;
 mod step;
 mod store;

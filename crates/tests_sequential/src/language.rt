@@ -1,5 +1,6 @@
 //! Sources and modules.
 
+mod conversions;
 pub mod faults_told;
 pub mod parsing;
 mod tasks;

@@ -4,7 +4,7 @@
 //! `language`:
 //! 1. `parsing` has a page of source that is read, cut, and with each byte replaced.
 //! 2. `faults_told` has what is told of a source in too little memory, and where its processes stand.
-//! 3. `tasks` has formats that no source can spell.
+//! 3. `tasks` has formats that no source can spell, and `conversions` texts of values, orders with signs and extensions.
 //!
 //! `behaviour`:
 //! 1. `turns` has what small processes do in a turn, and `too_long` turns that are too long. All are made by `turn` from a source.

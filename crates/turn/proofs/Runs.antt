@@ -6,7 +6,7 @@ use Rattle.logic4.specs.Operators.{select_digit}
 use Rattle.model.specs.Expressions.{Store, value_of, one_digit}
 use Rattle.model.specs.Turns.{contains, with_uses}
 use Rattle.design.specs.declared.code.Op.{Op}
-use Rattle.design.specs.declared.code.Op.TheVariants.{Load, Pick, Constant, Unary, Binary, BinaryConstant, BinaryRegister, Join, Resize, Choose}
+use Rattle.design.specs.declared.code.Op.TheVariants.{Load, Pick, Constant, Unary, Binary, BinaryConstant, BinaryRegister, Join, Resize, Extend, Choose}
 use Rattle.design.specs.Operate.{combined}
 use Rattle.design.specs.ExpressionSteps.{topmost, below, act, run_ops, reads_of, all_reads, IsOpOf}
 use Rattle.turn.specs.declared.memory.Seen.{Seen}
@@ -83,6 +83,7 @@ ran_one (BinaryRegister op size asked r other) k s st k' s' st' lt (v, (l, e)) =
     ran_look (BinaryRegister op size asked r other) r v k s st k' s' st' refl (λ values h. ap (λ w. combined op size asked (topmost st) (resize other w) ∷ below st) h ∙ sym e) (looked r v k s k' s' lt l)
 ran_one Join k s st k' s' st' lt h = ran_plain Join k s st k' s' st' refl (λ values. refl) h
 ran_one (Resize size) k s st k' s' st' lt h = ran_plain (Resize size) k s st k' s' st' refl (λ values. refl) h
+ran_one (Extend by size asked) k s st k' s' st' lt h = ran_plain (Extend by size asked) k s st k' s' st' refl (λ values. refl) h
 ran_one (Choose size) k s st k' s' st' lt h = ran_plain (Choose size) k s st k' s' st' refl (λ values. refl) h
 
 -- runs compose

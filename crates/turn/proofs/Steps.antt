@@ -1,21 +1,23 @@
 -- Each step of the machine is a step of the remainder, on every store that agrees with what was read.
 use Rattle.std.proofs.Common.{◌≡◌, ℕ, zero, suc, ◌+◌, ◌<◌, ◌≤◌, Bool, true, false, if◌then◌else◌, List, [], ◌∷◌, ◌++◌, map, take, length, length-append, Option, Some, None, refl, sym, ap, ◌∙◌, arith, ⊎_elim, subst, get_or}
-use Rattle.std.specs.Prelude.{slice_get, slice_set, slice_index_or}
+use Rattle.std.specs.Prelude.{slice_get, slice_set, slice_index, slice_index_or}
 use Rattle.std.specs.List.{All}
-use Rattle.std.proofs.lemmas.List.{map-append, length-set}
+use Rattle.std.proofs.lemmas.List.{append-nil, map-append, length-set}
 use Rattle.std.proofs.lemmas.List.Elements.{All-push}
 use Rattle.std.proofs.lemmas.Option.{slice_get-get_or}
 use Rattle.logic4.specs.declared.digit.Truth.{Truth}
 use Rattle.logic4.specs.declared.digit.Truth.TheVariants.{False, True, Unknown}
-use Rattle.logic4.specs.Vector.{Vector}
+use Rattle.logic4.specs.Vector.{Vector, vector}
+use Rattle.logic4.proofs.Lengths.{length-vector}
 use Rattle.logic4.specs.Operators.{truth}
 use Rattle.model.specs.declared.tree.Task.TheVariants as Task
 use Rattle.model.specs.Syntax.{Expression, Expressions, registers_of}
 use Rattle.model.specs.Design as tree
-use Rattle.model.specs.Design.{Statement, Statements, Piece, Trigger, Process, statement_at, process_at, all_statements, all_of, size}
+use Rattle.model.specs.Design.{Statement, Statements, Trigger, Process, statement_at, process_at, all_statements, all_of, size}
+use Rattle.model.specs.Syntax.{Piece}
 use Rattle.model.specs.Expressions.{Store, own_value, assigned_value}
 use Rattle.model.specs.Turns as turns
-use Rattle.model.specs.Turns.{At, Set, Remainder, Turn, Going, parts, whole, next, after_statement, counted, goes_on, stops, delayed, where_true}
+use Rattle.model.specs.Turns.{At, Set, Remainder, Turn, Going, parts, whole, next, after_statement, counted, goes_on, stops, delayed, time_value, where_true}
 use Rattle.design.specs.declared.code.Node.{Node}
 use Rattle.design.specs.declared.code.Node.TheVariants as node
 use Rattle.design.specs.declared.code.ProcState.{ProcState}
@@ -215,6 +217,23 @@ module _ (code : Compiled) (p now : ℕ) where
             refl refl;
       }
 
+  time_follows : (s : Status) (q to place : ℕ) → Sound code p s → remainder_of_state code s.state ≡ At place ∷ remainder_at (design_of code) to → statement_at (design_of code) place ≡ tree.Now q → q < length code.widths → IsPlaceOf (design_of code) p to → Follows code p now s step.Goes (writing s q (time_value code.widths q now) to)
+  time_follows s q to place sound left is fits within =
+      let v = time_value code.widths q now in
+      record {
+        sound = record {
+          state = state_at s.state to sound.state within;
+          size = length-set s.known q (Some v) ∙ sound.size;
+          knows = knows_write s.writes s.reads s.known q v (subst (λ n. q < n) (sym sound.size) fits) sound.knows;
+          writes = All-push (λ w. FitsRegister code.widths w.0 w.1) s.writes (q, v) sound.writes (fits, length-vector (slice_index code.widths q) now);
+          nbas = sound.nbas;
+        };
+        agrees = λ store h. h;
+        goes = λ store count len agree.
+            stepping (going_of code store count s) (remainder_of_state code s.state) (remainder_at (design_of code) to) place (tree.Now q) left is
+            ∙ goes_eq (remainder_at (design_of code) to) (remainder_at (design_of code) to) _ _ _ _ _ _ _ _ _ _ _ (count + 1) refl (sym (written-append s.writes store q v)) refl refl refl refl;
+      }
+
   after_follows : (s : Status) (q to place delay : ℕ) (e : Expression ℕ) (v : Vector) (m : Status) → Sound code p s → Gets s v m (λ values. assigned_value code.widths values q e) (registers_of e) → remainder_of_state code s.state ≡ At place ∷ remainder_at (design_of code) to → statement_at (design_of code) place ≡ tree.AssignAfter q delay e → q < length code.widths → IsPlaceOf (design_of code) p to → Follows code p now s (step.Ends (wait_for now delay) false) (holding (record s { known = m.known; reads = m.reads }) q v to)
   after_follows s q to place delay e v m sound got left is fits within = record {
     sound = record {
@@ -291,7 +310,22 @@ module _ (code : Compiled) (p now : ℕ) where
     agrees = l.continues.agrees;
     goes = λ store count len agree.
         stepping (going_of code store count s) (remainder_of_state code s.state) (remainder_at (design_of code) to) place (tree.Print Task.Display format arguments) left is
-        ∙ goes_eq (remainder_at (design_of code) to) (remainder_at (design_of code) to) _ _ _ _ _ _ _ _ _ _ _ (count + 1) refl refl (sym l.continues.uses) refl refl (sym (l.lines store (len ∙ sym sound.size) agree));
+        ∙ goes_eq (remainder_at (design_of code) to) (remainder_at (design_of code) to) _ _ _ _ _ _ _ _ _ _ _ (count + 1) refl refl (sym l.continues.uses) refl refl (sym (l.lines (10 ∷ []) store (len ∙ sym sound.size) agree));
+  }
+
+  write_follows : (s m : Status) (to place : ℕ) (format : List Piece) (arguments : Expressions ℕ) → Sound code p s → Lined code.widths s m format arguments → remainder_of_state code s.state ≡ At place ∷ remainder_at (design_of code) to → statement_at (design_of code) place ≡ tree.Print Task.Write format arguments → IsPlaceOf (design_of code) p to → Follows code p now s step.Goes (at (record s { known = m.known; reads = m.reads; lines = m.lines }) to)
+  write_follows s m to place format arguments sound l left is within = record {
+    sound = record {
+      state = state_at s.state to sound.state within;
+      size = l.size ∙ sound.size;
+      knows = l.continues.knows;
+      writes = sound.writes;
+      nbas = sound.nbas;
+    };
+    agrees = l.continues.agrees;
+    goes = λ store count len agree.
+        stepping (going_of code store count s) (remainder_of_state code s.state) (remainder_at (design_of code) to) place (tree.Print Task.Write format arguments) left is
+        ∙ goes_eq (remainder_at (design_of code) to) (remainder_at (design_of code) to) _ _ _ _ _ _ _ _ _ _ _ (count + 1) refl refl (sym l.continues.uses) refl refl (sym (l.lines [] store (len ∙ sym sound.size) agree) ∙ append-nil m.lines);
   }
 
   strobe_follows : (s : Status) (to place : ℕ) (format : List Piece) (arguments : Expressions ℕ) → Sound code p s → remainder_of_state code s.state ≡ At place ∷ remainder_at (design_of code) to → statement_at (design_of code) place ≡ tree.Print Task.Strobe format arguments → place ≡ s.state.place → IsPlaceOf (design_of code) p to → Follows code p now s step.Goes (strobing s to)
@@ -348,6 +382,9 @@ module _ (code : Compiled) (p now : ℕ) where
         let got = gets (span_of code.ops span) s v m _ _ (piece_within s span sound) sound.knows c val in
         let es' = es ∙ ap (λ z. delaying z (record { reg = q; value = v; due = now + delay }) to) got.same in
         rw (er, es') (later_follows s q to place delay e v m sound got (here ∙ left) is fits within)
+    node_follows (node.Now q digits to) s r s' sound here (place, (left, is, same, fits, within)) (er, es) =
+        let es' = es ∙ ap (λ n. writing s q (vector n now) to) same in
+        rw (er, es') (time_follows s q to place sound (here ∙ left) is fits within)
     node_follows (node.Delay delay to) s r s' sound here (place, (body, (rest, (left, is, there, within)))) (er, es) = rw (er, es) (delay_follows s to place delay body rest sound (here ∙ left) is there within)
     node_follows (node.Await control to) s r s' sound here (place, (body, (rest, (triggers, (left, found, is, there, within))))) (er, es) = rw (er, es) (await_follows s to place control triggers body rest sound (here ∙ left) found is there within)
     node_follows (node.Branch span taken missed) s r s' sound here (place, (c, (rest, (left, comp, test, w1, w2)))) (er, (v, (m, (val, es)))) =
@@ -358,6 +395,10 @@ module _ (code : Compiled) (p now : ℕ) where
         let l = lined code.widths code.ops (span_of code.shown span) s m format arguments (ops_within s sound) sound.knows line prints in
         let es' = es ∙ ap (λ z. at (printing z (10 ∷ [])) to) l.same in
         rw (er, es') (display_follows s m to place format arguments sound l (here ∙ left) is within)
+    node_follows (node.Print Task.Write span to) s r s' sound here (place, (format, (arguments, (left, is, line, within)))) (er, (m, (prints, es))) =
+        let l = lined code.widths code.ops (span_of code.shown span) s m format arguments (ops_within s sound) sound.knows line prints in
+        let es' = es ∙ ap (λ z. at z to) l.same in
+        rw (er, es') (write_follows s m to place format arguments sound l (here ∙ left) is within)
     node_follows (node.Print Task.Strobe span to) s r s' sound here (place, (format, (arguments, (left, is, line, within)))) (er, es) =
         rw (er, es) (strobe_follows s to place format arguments sound (here ∙ left) is (place_named (design_of code) p s.state.place place _ sound.state.place left) within)
     node_follows (node.Finish to) s r s' sound here (place, (left, is, within)) (er, es) = rw (er, es) (finish_follows s to place sound (here ∙ left) is within)

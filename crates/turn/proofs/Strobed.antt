@@ -8,7 +8,8 @@ use Rattle.std.proofs.lemmas.List.{append-nil, length-map, length-replicate, tak
 use Rattle.model.specs.declared.tree.Task.TheVariants as Task
 use Rattle.model.specs.Syntax.{Expressions, all_registers_of}
 use Rattle.model.specs.Design as tree
-use Rattle.model.specs.Design.{Statement, Piece, statement_at}
+use Rattle.model.specs.Design.{Statement, statement_at}
+use Rattle.model.specs.Syntax.{Piece}
 use Rattle.model.specs.Expressions.{Store}
 use Rattle.model.specs.Turns.{At, Remainder, with_uses, line_text, own_values}
 use Rattle.model.specs.Runs.{strobe_line, strobe_lines_at}
@@ -112,7 +113,7 @@ module _ (code : Compiled) (places : List ℕ) (place : ℕ) where
         lines = λ store len agree.
             let line = line_text format (own_values code.widths store arguments) in
             let printed : m.lines ++ 10 ∷ [] ≡ s.lines ++ line =
-            l.lines store (len ∙ sym strobed.size) agree ∙ ap (λ ws. s.lines ++ line_text format (own_values code.widths (written store ws) arguments)) strobed.writes in
+            l.lines (10 ∷ []) store (len ∙ sym strobed.size) agree ∙ ap (λ ws. s.lines ++ line_text format (own_values code.widths (written store ws) arguments)) strobed.writes in
             lines_more store s.lines (m.lines ++ 10 ∷ []) line
             (strobed.lines store len (l.continues.agrees store agree)) printed (sym (ap (strobe_line (design_of code) store) is));
         uses = uses_more (registers s.reads) (registers m.reads) (all_registers_of arguments) strobed.uses
@@ -145,6 +146,7 @@ module _ (code : Compiled) (places : List ℕ) (place : ℕ) where
     node_strobed (node.Assign q span to) s s' is strobed (n, (x, (left, st, c, fits, within))) e = strobed_still s s' strobed (still_there n _ (tree.Assign q x) left st (λ store. refl) refl) e
     node_strobed (node.AssignAfter q delay span to) s s' is strobed (n, (x, (left, st, c, fits, within))) e = strobed_still s s' strobed (still_there n _ (tree.AssignAfter q delay x) left st (λ store. refl) refl) e
     node_strobed (node.AssignLater q delay span to) s s' is strobed (n, (x, (left, st, c, fits, within))) e = strobed_still s s' strobed (still_there n _ (tree.AssignLater q delay x) left st (λ store. refl) refl) e
+    node_strobed (node.Now q digits to) s s' is strobed (n, (left, st, same, fits, within)) e = strobed_still s s' strobed (still_there n _ (tree.Now q) left st (λ store. refl) refl) e
     node_strobed (node.Delay delay to) s s' is strobed (n, (body, (rest, (left, st, there, within)))) e = strobed_still s s' strobed (still_there n rest (tree.Delay delay body) left st (λ store. refl) refl) e
     node_strobed (node.Await control to) s s' is strobed (n, (body, (rest, (triggers, (left, found, st, there, within))))) e = strobed_still s s' strobed (still_there n rest (tree.Await triggers body) left st (λ store. refl) refl) e
     node_strobed (node.Branch span taken missed) s s' is strobed (n, (c, (rest, (left, computes, test, w1, w2)))) e =
@@ -154,6 +156,7 @@ module _ (code : Compiled) (places : List ℕ) (place : ℕ) where
         test in
         strobed_still s s' strobed still e
     node_strobed (node.Print Task.Display span to) s s' is strobed (n, (format, (arguments, (left, st, line, within)))) e = strobed_still s s' strobed (still_there n _ (tree.Print Task.Display format arguments) left st (λ store. refl) refl) e
+    node_strobed (node.Print Task.Write span to) s s' is strobed (n, (format, (arguments, (left, st, line, within)))) e = strobed_still s s' strobed (still_there n _ (tree.Print Task.Write format arguments) left st (λ store. refl) refl) e
     node_strobed (node.Print Task.Strobe span to) s s' is strobed (n, (format, (arguments, (left, st, line, within)))) (m, (prints, e)) =
         let all : All (IsOpOf (length s.known)) code.ops = subst (λ k. All (IsOpOf k) code.ops) (sym strobed.size) is.ops in
         let l = lined code.widths code.ops (span_of code.shown span) s m format arguments all strobed.knows line prints in

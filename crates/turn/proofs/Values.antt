@@ -8,16 +8,15 @@ use Rattle.logic4.specs.Vector.{Vector}
 use Rattle.logic4.specs.Display.{shown}
 use Rattle.logic4.proofs.Lengths.{length-resize}
 use Rattle.model.specs.Syntax.{Expression, Expressions, Nothing, Also, registers_of, all_registers_of}
-use Rattle.model.specs.Design.{Piece, Byte, Argument}
+use Rattle.model.specs.Syntax.{Piece, Byte, Argument}
 use Rattle.model.specs.Expressions.{Store, value_of, own_value, assigned_value}
-use Rattle.model.specs.Turns.{contains, line_text, own_values}
+use Rattle.model.specs.Turns.{contains, format_text, own_values}
 use Rattle.design.specs.declared.code.Op.{Op}
-use Rattle.design.specs.declared.code.Op.TheVariants.{Load, Pick, Constant, Unary, Binary, BinaryConstant, BinaryRegister, Join, Resize, Choose}
+use Rattle.design.specs.declared.code.Op.TheVariants.{Load, Pick, Constant, Unary, Binary, BinaryConstant, BinaryRegister, Join, Resize, Extend, Choose}
 use Rattle.design.specs.declared.code.Span.{Span}
 use Rattle.design.specs.declared.code.LinePiece.{LinePiece}
 use Rattle.design.specs.declared.code.LinePiece.TheVariants as pieces
 use Rattle.design.specs.ExpressionSteps.{topmost, Computes, IsOpOf, span_of}
-use Rattle.design.specs.DesignTrees.{conversion_of}
 use Rattle.design.specs.Compiled.{Compiled}
 use Rattle.design.specs.Meaning.{IsLine, IsCompiled}
 use Rattle.turn.specs.declared.memory.Seen.{Seen}
@@ -44,6 +43,7 @@ op_within n m (BinaryConstant op size asked v) le h = tt
 op_within n m (BinaryRegister op size asked r other) le lt = omega (arith, le, lt)
 op_within n m Join le h = tt
 op_within n m (Resize size) le h = tt
+op_within n m (Extend by size asked) le h = tt
 op_within n m (Choose size) le h = tt
 
 -- the code of a design reads declared registers alone, also where more are
@@ -116,18 +116,18 @@ knows_write writes reads known r v lt k = record {
       (same_or_not r q);
 }
 
--- a line, on each store that agrees
+-- the text of a format, on each store that agrees, with anything behind it
 pub record Lined (widths : List ℕ) (s s' : Status) (format : List Piece) (arguments : Expressions ℕ) : Type 0 where
   pub size : length s'.known ≡ length s.known
   pub continues : Continues s.writes (all_registers_of arguments) s.reads s'.reads s'.known
-  pub lines : (store : Store) → length store ≡ length s.known → Agrees s'.reads store → s'.lines ++ 10 ∷ [] ≡ s.lines ++ line_text format (own_values widths (written store s.writes) arguments)
+  pub lines : (behind : List ℕ) (store : Store) → length store ≡ length s.known → Agrees s'.reads store → s'.lines ++ behind ≡ s.lines ++ format_text behind format (own_values widths (written store s.writes) arguments)
   pub same : s' ≡ record s { known = s'.known; reads = s'.reads; lines = s'.lines }
 
 lined_byte : (widths : List ℕ) (s s' : Status) (b : ℕ) (format : List Piece) (arguments : Expressions ℕ) → Lined widths (printing s (b ∷ [])) s' format arguments → Lined widths s s' (Byte b ∷ format) arguments
 lined_byte widths s s' b format arguments l = record {
   size = l.size;
   continues = l.continues;
-  lines = λ store len agree. l.lines store len agree ∙ append_assoc s.lines (b ∷ []) _;
+  lines = λ behind store len agree. l.lines behind store len agree ∙ append_assoc s.lines (b ∷ []) _;
   same = l.same;
 }
 
@@ -135,21 +135,21 @@ lined_value : (widths : List ℕ) (s m s' : Status) (v : Vector) (conversion : _
 lined_value widths s m s' v conversion e format arguments got l = record {
   size = l.size ∙ got.size;
   continues = continues_both s.writes (registers_of e) (all_registers_of arguments) s.reads m.reads s'.reads m.known s'.known got.continues l.continues;
-  lines = λ store len agree.
+  lines = λ behind store len agree.
       let values = written store s.writes in
       let value : own_value widths values e ≡ v = got.value store len (l.continues.agrees store agree) in
-      l.lines store (len ∙ sym got.size) agree
+      l.lines behind store (len ∙ sym got.size) agree
       ∙ append_assoc s.lines (shown conversion v) _
-      ∙ ap (λ w. s.lines ++ (shown conversion w ++ line_text format (own_values widths values arguments))) (sym value);
+      ∙ ap (λ w. s.lines ++ (shown conversion w ++ format_text behind format (own_values widths values arguments))) (sym value);
   same = l.same;
 }
 
--- pieces that are those of a format print its line, but for the newline
+-- pieces that are those of a format print its text
 pub lined : (widths : List ℕ) (ops : List Op) (ps : List LinePiece) (s s' : Status) (format : List Piece) (arguments : Expressions ℕ) → All (IsOpOf (length s.known)) ops → Knows s.writes s.reads s.known → IsLine widths ops ps format arguments → PrintsPieces ops ps s s' → Lined widths s s' format arguments
 lined widths ops [] s s' [] Nothing all k is e = record {
   size = ap (λ (t : Status). length t.known) e;
   continues = subst (λ (t : Status). Continues s.writes [] s.reads t.reads t.known) (sym e) (continues_none s.writes s.reads s.known k);
-  lines = λ store len agree. ap (λ (t : Status). t.lines ++ 10 ∷ []) e;
+  lines = λ behind store len agree. ap (λ (t : Status). t.lines ++ behind) e;
   same = rw e refl;
 }
 lined widths ops [] s s' [] (Also e es) all k is h = absurd is
@@ -165,8 +165,8 @@ lined widths ops (pieces.Value conversion span ∷ ps) s s' (Byte c ∷ format) 
 lined widths ops (pieces.Value conversion span ∷ ps) s s' (Argument c ∷ format) Nothing all k is h = absurd is
 lined widths ops (pieces.Value conversion span ∷ ps) s s' (Argument c ∷ format) (Also e arguments) all k (same, computes, is) (n, ((v, (m, (valued, en))), h)) =
     let got = gets (span_of ops span) s v m (λ values. own_value widths values e) (registers_of e) (all_piece (IsOpOf (length s.known)) ops span all) k computes valued in
-    let en' : n ≡ record s { known = m.known; reads = m.reads; lines = s.lines ++ shown (conversion_of conversion) v } = en ∙ ap (λ t. printing t (shown (conversion_of conversion) v)) got.same in
+    let en' : n ≡ record s { known = m.known; reads = m.reads; lines = s.lines ++ shown conversion v } = en ∙ ap (λ t. printing t (shown conversion v)) got.same in
     subst (λ c. Lined widths s s' (Argument c ∷ format) (Also e arguments)) same
-    (lined_value widths s m s' v (conversion_of conversion) e format arguments got
-    (lined widths ops ps (record s { known = m.known; reads = m.reads; lines = s.lines ++ shown (conversion_of conversion) v }) s' format arguments
+    (lined_value widths s m s' v conversion e format arguments got
+    (lined widths ops ps (record s { known = m.known; reads = m.reads; lines = s.lines ++ shown conversion v }) s' format arguments
     (subst (λ n. All (IsOpOf n) ops) (sym got.size) all) got.continues.knows is (subst (λ t. PrintsPieces ops ps t s') en' h)))

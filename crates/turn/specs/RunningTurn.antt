@@ -10,7 +10,6 @@ use Rattle.design.specs.declared.code.LinePiece.{LinePiece}
 use Rattle.design.specs.declared.code.LinePiece.TheVariants as pieces
 use Rattle.design.specs.declared.code.ProcState.{ProcState}
 use Rattle.design.specs.ExpressionSteps.{span_of}
-use Rattle.design.specs.DesignTrees.{conversion_of}
 use Rattle.turn.specs.declared.log.Nba.{Nba}
 use Rattle.turn.specs.declared.log.Suspend.{Suspend}
 use Rattle.turn.specs.declared.log.Suspend.TheVariants.{Inactive, Until}
@@ -81,7 +80,7 @@ WithValue ops s P = (v : Vector) × ((m : Status) × (Valued ops s v m × P v m)
 abbrev pub PrintsPiece : List Op → LinePiece → Status → Status → Type 0
 PrintsPiece ops (pieces.Byte b) s s' = s' ≡ printing s (b ∷ [])
 PrintsPiece ops (pieces.Value conversion span) s s' =
-    WithValue (span_of ops span) s (λ v m. s' ≡ printing m (shown (conversion_of conversion) v))
+    WithValue (span_of ops span) s (λ v m. s' ≡ printing m (shown conversion v))
 
 -- the pieces of a line are printed, in order
 abbrev pub PrintsPieces : List Op → List LinePiece → Status → Status → Type 0

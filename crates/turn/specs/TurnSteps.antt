@@ -1,8 +1,8 @@
 -- The steps of a turn, as the machine makes them.
 use Rattle.std.specs.Prelude.{◌≡◌, ℕ, ◌+◌, true, false, List, [], ◌∷◌, Option, Some, None, slice_get}
-use Rattle.logic4.specs.Vector.{Vector}
+use Rattle.logic4.specs.Vector.{Vector, vector}
 use Rattle.logic4.specs.Operators.{truth}
-use Rattle.model.specs.declared.tree.Task.TheVariants.{Display, Strobe}
+use Rattle.model.specs.declared.tree.Task.TheVariants.{Display, Strobe, Write}
 use Rattle.design.specs.declared.code.Op.{Op}
 use Rattle.design.specs.declared.code.Span.{Span}
 use Rattle.design.specs.declared.code.LinePiece.{LinePiece}
@@ -36,6 +36,10 @@ Branches ops span taken missed s s' = WithValue (span_of ops span) s (λ v m. s'
 abbrev pub Displays : List Op → List LinePiece → Span → ℕ → Status → Status → Type 0
 Displays ops shown span next s s' = (m : Status) × (PrintsPieces ops (span_of shown span) s m × (s' ≡ at (printing m (10 ∷ [])) next))
 
+-- a text without a newline
+abbrev pub PrintsText : List Op → List LinePiece → Span → ℕ → Status → Status → Type 0
+PrintsText ops shown span next s s' = (m : Status) × (PrintsPieces ops (span_of shown span) s m × (s' ≡ at m next))
+
 -- what a node does
 abbrev pub TakesNode : List Op → List LinePiece → ℕ → Node → Status → Step → Status → Type 0
 TakesNode ops shown now node.Over s r s' = (r ≡ Over) × (s' ≡ s)
@@ -44,10 +48,12 @@ TakesNode ops shown now (node.Skip next) s r s' = (r ≡ Goes) × (s' ≡ at s n
 TakesNode ops shown now (node.Assign q span next) s r s' = (r ≡ Goes) × Assigns ops span q next s s'
 TakesNode ops shown now (node.AssignAfter q delay span next) s r s' = (r ≡ Ends (wait_for now delay) false) × AssignsAfter ops span q next s s'
 TakesNode ops shown now (node.AssignLater q delay span next) s r s' = (r ≡ Goes) × AssignsLater ops span q (now + delay) next s s'
+TakesNode ops shown now (node.Now q digits next) s r s' = (r ≡ Goes) × (s' ≡ writing s q (vector digits now) next)
 TakesNode ops shown now (node.Delay delay next) s r s' = (r ≡ Ends (wait_for now delay) false) × (s' ≡ at s next)
 TakesNode ops shown now (node.Await control next) s r s' = (r ≡ Ends (Event control) false) × (s' ≡ at s next)
 TakesNode ops shown now (node.Branch condition taken missed) s r s' = (r ≡ Goes) × Branches ops condition taken missed s s'
 TakesNode ops shown now (node.Print Display span next) s r s' = (r ≡ Goes) × Displays ops shown span next s s'
+TakesNode ops shown now (node.Print Write span next) s r s' = (r ≡ Goes) × PrintsText ops shown span next s s'
 TakesNode ops shown now (node.Print Strobe span next) s r s' = (r ≡ Goes) × (s' ≡ strobing s next)
 TakesNode ops shown now (node.Finish next) s r s' = (r ≡ Ends Ended true) × (s' ≡ at s next)
 

@@ -1,7 +1,6 @@
-//! The lines of `$display` (17.1).
-ghost use Rattle.std.specs.Prelude.{◌≡◌, ◌∷◌, [], string_bytes, OnOk, IfOk};
+//! The lines of `$display` and its kin (17.1).
+ghost use Rattle.std.specs.Prelude.{◌≡◌, ◌∷◌, [], OnOk};
 ghost use Rattle.logic4.specs.Display as display;
-ghost use Rattle.design.specs.DesignTrees.{conversion_of};
 ghost use Rattle.turn.specs.Reads.{ReadsOn};
 ghost use Rattle.turn.specs.Evaluate.{NamesDeclared};
 ghost use Rattle.turn.specs.RunningTurn.{turn_status_of, printing, PrintsPiece, PrintsPieces};
@@ -14,17 +13,6 @@ use design::tree::Conversion;
 use logic4::bits::Bits;
 use std::alloc::{AllocError, Global};
 
-// The text of a value by a conversion (17.1.1.2).
-fn text_of(alloc: Global, conversion: Conversion, value: Bits) -> Result<String, AllocError>
-    ensures { IfOk result (λ t. string_bytes t ≡ display.shown (conversion_of conversion) value) }
-{
-    match conversion {
-        Conversion::Binary => value.show_b(alloc),
-        Conversion::Hex => value.show_h(alloc),
-        Conversion::Decimal => value.show_d0(alloc),
-    }
-}
-
 impl RunningTurn {
     // Prints a byte. It is one of ASCII (3.6), so in UTF-8 it is the whole of a character.
     fn print_byte(&mut self, byte: Ascii) -> Result<(), AllocError>
@@ -35,9 +23,9 @@ impl RunningTurn {
 
     // Prints a value by a conversion.
     fn print_value(&mut self, conversion: Conversion, value: Bits) -> Result<(), AllocError>
-        ensures { OnOk result (turn_status_of self.new ≡ printing (turn_status_of self.old) (display.shown (conversion_of conversion) value)) }
+        ensures { OnOk result (turn_status_of self.new ≡ printing (turn_status_of self.old) (display.shown conversion value)) }
     {
-        let text = text_of(self.alloc, conversion, value)?;
+        let text = value.show(conversion, self.alloc)?;
         self.lines.push_str(text.as_str())
     }
 

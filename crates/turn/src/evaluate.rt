@@ -3,7 +3,7 @@ ghost use Rattle.std.specs.Prelude.{◌≡◌, ◌<◌, ◌∷◌, [], None, len
 ghost use Rattle.logic4.specs.Vector.{resize};
 ghost use Rattle.logic4.specs.Operators.{select_digit};
 ghost use Rattle.model.specs.Expressions.{Store};
-ghost use Rattle.design.specs.declared.code.Op.TheVariants.{Load, Pick, Unary, Binary, BinaryRegister, Join, Resize, Choose};
+ghost use Rattle.design.specs.declared.code.Op.TheVariants.{Load, Pick, Unary, Binary, BinaryRegister, Join, Resize, Extend, Choose};
 ghost use Rattle.design.specs.Operate.{combined};
 ghost use Rattle.design.specs.ExpressionSteps.{topmost, below, act, run_ops, IsOpOf};
 ghost use Rattle.turn.specs.Reads.{ReadsOn};
@@ -15,6 +15,7 @@ use crate::stack::{Stack, pop};
 use design::RegId;
 use design::code::{Op, Size};
 use logic4::bits::Bits;
+use logic4::digit::Extension;
 use model::tree::{BinaryOperator, UnaryOperator};
 use std::alloc::AllocError;
 
@@ -226,6 +227,14 @@ fn act_resize(stack: &mut Stack, size: Size)
     stack.top = stack.top.resize(size.get());
 }
 
+// The topmost vector, extended by its sign or by zeros to a size, and then extended with zeros or cut.
+#[inline(never)]
+fn act_extend(stack: &mut Stack, by: Extension, size: Size, asked: Size)
+    ensures { vectors stack.new ≡ act [] (Extend by size asked) (vectors stack.old) }
+{
+    stack.top = stack.top.extend(by, size.get()).resize(asked.get());
+}
+
 // One of the two topmost vectors, by the truth of the third.
 #[inline(never)]
 fn act_choose(stack: &mut Stack, size: Size)
@@ -282,6 +291,7 @@ fn step<R: RegReader>(
         ),
         Op::Join => act_join(stack),
         Op::Resize { size } => act_resize(stack, *size),
+        Op::Extend { by, size, asked } => act_extend(stack, *by, *size, *asked),
         Op::Choose { size } => act_choose(stack, *size),
     }
     Ok(())

@@ -12,6 +12,7 @@ use crate::log::Suspend;
 use crate::memory::RegReader;
 use crate::running_turn::RunningTurn;
 use design::code::{LinePiece, Node, Op};
+use logic4::bits::Bits;
 use model::tree::Task;
 use std::alloc::AllocError;
 
@@ -107,6 +108,14 @@ impl RunningTurn {
                 self.compute(ops, *value, reader)?;
                 self.assign_later(*register, now + u64::from(*delay), *next)?;
             }
+            Node::Now {
+                register,
+                size,
+                next,
+            } => {
+                let value = Bits::from_u64(size.get(), now);
+                self.write(*register, value, *next)?;
+            }
             Node::Delay { delay, next } => return Ok(self.wait(*next, wait_until(now, *delay))),
             Node::Await { control, next } => return Ok(self.wait(*next, Suspend::Event(*control))),
             Node::Branch {
@@ -116,6 +125,7 @@ impl RunningTurn {
             } => self.branch(ops, reader, *condition, *taken, *missed)?,
             Node::Print { task, pieces, next } => match task {
                 Task::Display => self.display(ops, shown, *pieces, *next, reader)?,
+                Task::Write => self.print_text(ops, shown, *pieces, *next, reader)?,
                 Task::Strobe => self.strobe(*next)?,
             },
             Node::Finish { next } => return Ok(self.finish(*next)),

@@ -88,6 +88,8 @@ fn put_value(
         BinaryOperator::LessEqual => *place = first.le(second).resize(asked.get()),
         BinaryOperator::Greater => *place = second.lt(first).resize(asked.get()),
         BinaryOperator::GreaterEqual => *place = second.le(first).resize(asked.get()),
+        BinaryOperator::SignedLess => *place = first.signed_lt(second).resize(asked.get()),
+        BinaryOperator::SignedLessEqual => *place = first.signed_le(second).resize(asked.get()),
         BinaryOperator::ShiftLeft => *place = left.shl(right),
         BinaryOperator::ShiftRight => *place = left.shr(right),
         BinaryOperator::Add => *place = first.add(second),

@@ -3,7 +3,7 @@ ghost use Rattle.std.specs.Prelude.{◌≡◌, OnOk};
 ghost use Rattle.turn.specs.Reads.{ReadsOn};
 ghost use Rattle.turn.specs.Evaluate.{NamesDeclared};
 ghost use Rattle.turn.specs.RunningTurn.{turn_status_of, chosen_place, strobing};
-ghost use Rattle.turn.specs.TurnSteps.{Assigns, Branches, Displays};
+ghost use Rattle.turn.specs.TurnSteps.{Assigns, Branches, Displays, PrintsText};
 
 use crate::memory::RegReader;
 use crate::running_turn::{RunningTurn, part};
@@ -76,6 +76,24 @@ impl RunningTurn {
     {
         self.print_pieces(ops, part(shown, pieces), reader)?;
         self.lines.push('\n')?;
+        self.go(next);
+        Ok(())
+    }
+
+    /// `$write`: the pieces (17.1).
+    pub fn print_text<R: RegReader>(
+        &mut self,
+        ops: &[Op],
+        shown: &[LinePiece],
+        pieces: Span,
+        next: usize,
+        reader: &mut R,
+    ) -> Result<(), AllocError>
+        requires { NamesDeclared R.registers ops.now }
+        ensures takes { OnOk result (PrintsText ops.now shown.now pieces next (turn_status_of self.old) (turn_status_of self.new)) }
+        ensures reads { ReadsOn R.gave R.lasting result reader.old self.old.memory.reads.entries reader.new self.new.memory.reads.entries }
+    {
+        self.print_pieces(ops, part(shown, pieces), reader)?;
         self.go(next);
         Ok(())
     }

@@ -9,8 +9,8 @@ use Rattle.logic4.specs.Operators.{same_vector}
 use Rattle.model.specs.declared.entry.Entry.{Entry}
 use Rattle.model.specs.declared.entry.Entry.TheVariants.{Update, ActivateInactive, ActivateNba, ActivateMonitor, Advance}
 use Rattle.model.specs.declared.entry.Refusal.TheVariants.{Finished, NotDue, WrongTime, PastLimit}
-use Rattle.model.specs.declared.tree.Task.TheVariants.{Display, Strobe}
-use Rattle.model.specs.Design.{Design, Statement, Empty, Assign, AssignAfter, AssignLater, Delay, Await, If, While, Print, Finish, statement_at, process_at}
+use Rattle.model.specs.declared.tree.Task.TheVariants.{Display, Strobe, Write}
+use Rattle.model.specs.Design.{Design, Statement, Empty, Assign, AssignAfter, AssignLater, Now, Delay, Await, If, While, Print, Finish, statement_at, process_at}
 use Rattle.model.specs.Expressions.{value_of}
 use Rattle.model.specs.Turns.{Remainder, At, Set, Wait, Ended, Inactive, Until, OnChange, NonblockingAssignment, Turn, Going, Next, Goes, Over, begun, counted, goes_on, stops, delayed, whole, after_statement, next, and_then, turn_within}
 use Rattle.model.specs.States.{Action, Evaluate, Event, State, start, with_value, change, change_all, with_due, with_nonblocking, with_future_nonblocking, schedule, schedule_all, schedule_wait, taking, turned, advanced, due_else, inactive_activated, nonblocking_activated, monitored}
@@ -61,11 +61,13 @@ statement_timely design now g place Empty rest h = h
 statement_timely design now g place (Assign r e) rest h = h
 statement_timely design now g place (AssignAfter r delay e) rest h = (h, waits-delayed now delay)
 statement_timely design now g place (AssignLater r delay e) rest h = due_from-append now g.nbas _ h (omega arith)
+statement_timely design now g place (Now r) rest h = h
 statement_timely design now g place (Delay delay body) rest h = (h, waits-delayed now delay)
 statement_timely design now g place (Await triggers body) rest h = (h, tt)
 statement_timely design now g place (If c body otherwise) rest h = h
 statement_timely design now g place (While c body) rest h = h
 statement_timely design now g place (Print Display format arguments) rest h = h
+statement_timely design now g place (Print Write format arguments) rest h = h
 statement_timely design now g place (Print Strobe format arguments) rest h = h
 statement_timely design now g place Finish rest h = (h, tt)
 

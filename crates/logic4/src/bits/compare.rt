@@ -1,8 +1,9 @@
-//! Order and equality of two vectors, each as one digit, and the edge between two values.
+//! Order, with and without signs, and equality of two vectors, each as one digit, and the edge between two values.
 #![tactic(auto, using(crate::proofs::Widths::widths))]
 
-ghost use Rattle.std.specs.Prelude.{◌≡◌, [], ◌∷◌, length};
+ghost use Rattle.std.specs.Prelude.{◌≡◌, true, false, if◌then◌else◌, [], ◌∷◌, length};
 ghost use Rattle.logic4.specs.Operators.{lt_vector, le_vector, eq_vector, case_eq_vector, each_pair, eq_digit};
+ghost use Rattle.logic4.specs.Signed.{is_negative, signed_lt_vector, signed_le_vector};
 ghost use Rattle.logic4.specs.Edges as edges;
 
 use crate::bits::{Bits, mask};
@@ -30,6 +31,48 @@ impl Bits {
     {
         if self.b | other.b == 0 {
             Bits::from_bool(self.a <= other.a)
+        } else {
+            Bits::from_digit(Digit::X)
+        }
+    }
+
+    /// Whether the most significant digit, which is the sign, is 1.
+    pub fn is_negative(self) -> bool
+        ensures { result ≡ is_negative self }
+    {
+        match self.digit(self.width() - 1) {
+            Digit::One => true,
+            Digit::Zero => false,
+            Digit::X => false,
+            Digit::Z => false,
+        }
+    }
+
+    /// One digit: whether `self` is the lesser number, both with their signs, x where a digit of either is x or z (5.1.7, 5.5).
+    /// Both widths are equal.
+    pub fn signed_lt(self, other: Self) -> Self
+        requires { length self ≡ length other }
+        ensures value { result ≡ signed_lt_vector self other ∷ [] }
+        ensures width { length result ≡ 1 }
+    {
+        if self.b | other.b == 0 {
+            let less = self.a < other.a;
+            Bits::from_bool(is_less(self.is_negative(), other.is_negative(), less))
+        } else {
+            Bits::from_digit(Digit::X)
+        }
+    }
+
+    /// One digit: whether `self` is at most `other`, both with their signs, x where a digit of either is x or z (5.1.7, 5.5).
+    /// Both widths are equal.
+    pub fn signed_le(self, other: Self) -> Self
+        requires { length self ≡ length other }
+        ensures value { result ≡ signed_le_vector self other ∷ [] }
+        ensures width { length result ≡ 1 }
+    {
+        if self.b | other.b == 0 {
+            let more = other.a < self.a;
+            Bits::from_bool(!is_less(other.is_negative(), self.is_negative(), more))
         } else {
             Bits::from_digit(Digit::X)
         }
@@ -80,6 +123,14 @@ impl Bits {
             digit_edge(old.digit(0), new.digit(0))
         }
     }
+}
+
+// Whether a number is less than another, by whether each is negative, and by whether its digits are less, which decide for two of
+// one sign.
+fn is_less(left: bool, right: bool, less: bool) -> bool
+    ensures { result ≡ (if left then (if right then less else true) else (if right then false else less)) }
+{
+    if left == right { less } else { left }
 }
 
 // the edge of a change from one digit to another (9.7.2): a posedge from 0 or to 1, a negedge from 1 or to 0

@@ -1,6 +1,6 @@
 use Rattle.std.proofs.Common.{◌≡◌, ◌++◌, drop, map, option_map}
 use Rattle.model.specs.Elaboration.{pieces_from, pieces_of}
-use Rattle.design.specs.DesignTrees.{piece_of}
+use Rattle.model.specs.SourceTrees.{piece_of}
 use Rattle.elaborate.specs.Formats.{stage_of}
 use Rattle.elaborate.proofs.format.pieces.Given as goal
 

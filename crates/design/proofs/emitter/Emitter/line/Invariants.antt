@@ -1,6 +1,7 @@
 use Rattle.std.proofs.Common.{◌≡◌, ◌+◌, length, map, drop}
 use Rattle.model.specs.Elaboration.{argument_count}
-use Rattle.design.specs.DesignTrees.{piece_of, expressions_of}
+use Rattle.design.specs.DesignTrees.{expressions_of}
+use Rattle.model.specs.SourceTrees.{piece_of}
 use Rattle.design.specs.Emit.{with_line_code}
 use Rattle.design.specs.Emitter.{emitted_of}
 use Rattle.design.proofs.emitter.Emitter.line.Given as goal
