@@ -153,14 +153,32 @@ def try_all_texts(program, room):
             raise Difference(f"{name}: no seed up to {seeds} has the text {min(missing)!r}")
 
 
+def short_stops(found):
+    """How many of these, each with its end, are of runs that stop short: by a turn that is too long, or where the time would pass the last one."""
+    return sum(end == "time" or end.startswith("process ") for _, end in found)
+
+
+def wanted_status(found, endless):
+    """The status of `races` where these texts or waves with their ends are all that there are."""
+    return {0: 4, 1: 4 if endless or short_stops(found) else 0}.get(len(found), 7)
+
+
 def verdict_fault(out, found, until):
     """What is wrong with the verdict that `races` prints, if anything is."""
-    told = re.search(rb"^(no|one|\d+) texts?( and ends)?: (?:every|no) lawful run up to time (\d+) (that )?comes to an end", out, re.MULTILINE)
+    told = re.search(
+        rb"^(no|one|\d+) texts?( and ends)?: (?:every|no) lawful run up to time (\d+) (that )?comes to an end(, and every one that stops short| or stops short)?",
+        out,
+        re.MULTILINE,
+    )
     if not told:
         return "there is no verdict of every lawful run"
-    count = {b"no": 0, b"one": 1}.get(told[1])
-    if (int(told[1]) if count is None else count) != len(found) or int(told[3]) != until or bool(told[4]) != bool(found):
+    count, stops = {b"no": 0, b"one": 1}.get(told[1]), short_stops(found)
+    if (int(told[1]) if count is None else count) != len(found) or int(told[3]) != until or bool(told[5]) != bool(stops):
         return f"the verdict is {told[0]!r}"
+    if bool(told[4]) != bool(found and not (len(found) == 1 and stops)):
+        return f"the verdict is {told[0]!r}"
+    if len(re.findall(rb"^text \d+ .*stops short: entry \d+ would ", out, re.MULTILINE)) != stops:
+        return f"it doesn't tell of {stops} runs that stop short"
     if bool(told[2]) != (len({end for text, end in found}) > 1):
         return f"the verdict is {told[0]!r}, and the ends are {sorted({end for text, end in found})}"
     return None if len(found) != 1 or out.endswith(next(iter(found))[0].encode()) else "the only text isn't shown"
@@ -208,7 +226,7 @@ def ask_races(program, design, found, until, room, random):
         raise Difference(f"races: {shown(answer)}: {len(pairs)} texts and ends of {len(found)}; not {min(left)}")
     if len(paths) != len(found):
         raise Difference(f"races: {shown(answer)}: {len(paths)} journals for {len(found)} texts and ends")
-    if answer.err or answer.status != {0: 4, 1: 4 if endless else 0}.get(len(found), 7):
+    if answer.err or answer.status != wanted_status(found, endless):
         raise Difference(f"races: {shown(answer)}, and there are {len(found)} texts and ends")
     fault = verdict_fault(answer.out, found, until)
     if fault:
@@ -218,7 +236,7 @@ def ask_races(program, design, found, until, room, random):
 def wave_count(out, until):
     """How many waves the verdict tells of every lawful run, or None where it says something else."""
     told = re.search(rb"^(no|one) wave: (?:in every|no) lawful run up to time (\d+) (?:that )?comes to an end", out, re.MULTILINE)
-    told = told or re.search(rb"^(\d+) waves: every lawful run up to time (\d+) that comes to an end has one of them$", out, re.MULTILINE)
+    told = told or re.search(rb"^(\d+) waves: every lawful run up to time (\d+) that comes to an end(?: or stops short)? has one of them$", out, re.MULTILINE)
     if not told or int(told[2]) != until:
         return None
     return {b"no": 0, b"one": 1}.get(told[1]) if not told[1].isdigit() else int(told[1])
@@ -247,7 +265,7 @@ def ask_observed(program, design, words, until, room, registers):
         pairs |= own
     if pairs != found or len(paths) != len(found):
         raise Difference(f"{what}: {shown(answer)}: {len(pairs)} waves and ends of {len(found)}, in {len(paths)} journals")
-    if answer.err or answer.status != {0: 4, 1: 4 if endless else 0}.get(len(found), 7) or wave_count(answer.out, until) != len(found):
+    if answer.err or answer.status != wanted_status(found, endless) or wave_count(answer.out, until) != len(found):
         raise Difference(f"{what}: {shown(answer)}, and there are {len(found)} waves and ends")
     return True
 

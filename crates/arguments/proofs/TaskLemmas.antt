@@ -15,7 +15,7 @@ use Rattle.arguments.specs.declared.command_task.CommandTask.TheVariants as task
 use Rattle.arguments.specs.Arguments.{FollowsRule, Gives, HasRules, flag_parser, flag_rule, parameters_of, rule, rule_for, rules_of, workers_parser, until_parser, entries_parser, seed_parser}
 use Rattle.arguments.specs.CommandWords.{Asks, AsksInVain, Begins, FailsAs, IsAskedBy, IsRunOf, IsReplayOf, IsRacesOf, IsCheckOf, IsExplainOf, IsWavesOf, IsDiffOf, app_by, argument_of, bare_app, every_task, faults_by, rows_by, with_arguments, with_tasks, word_of_task, run_app, replay_app, races_app, check_app, explain_app, waves_app, diff_app, whole_app, run_rows, replay_rows, races_rows, check_rows, explain_rows, waves_rows, diff_rows, run_faults, replay_faults, races_faults, check_faults, explain_faults, waves_faults, diff_faults}
 use Rattle.arguments.proofs.GivenLemmas.{given, one_more, required_text}
-use Rattle.arguments.proofs.WordLemmas.{run_fails, replay_fails, races_fails, check_fails, explain_fails, waves_fails, diff_fails, no_radix_fails, nothing_observed_fails, samples_fail, two_orders_fail}
+use Rattle.arguments.proofs.WordLemmas.{run_fails, replay_fails, races_fails, check_fails, explain_fails, waves_fails, diff_fails, no_telling_fails, nothing_observed_fails, samples_fail, two_orders_fail}
 
 -- how a command is built
 
@@ -163,7 +163,7 @@ task_in_vain asked words own rows e begins same found (inr (inl (is_races, nothi
     nothing_observed_fails words own rows e (subst (λ (t : CommandTask). Begins words (word_of_task t)) is_races begins) same
     (found ∙ ap (λ (t : CommandTask). rows_by t own) is_races) nothing kind
 task_in_vain asked words own rows e begins same found (inr (inr (inr (is_explain, none, kind)))) =
-    no_radix_fails words own rows e (subst (λ (t : CommandTask). Begins words (word_of_task t)) is_explain begins) same
+    no_telling_fails words own rows e (subst (λ (t : CommandTask). Begins words (word_of_task t)) is_explain begins) same
     (found ∙ ap (λ (t : CommandTask). rows_by t own) is_explain) none kind
 task_in_vain asked words own rows e begins same found (inr (inr (inl (is_races, some, other, kind)))) =
     samples_fail words own rows e (subst (λ (t : CommandTask). Begins words (word_of_task t)) is_races begins) same

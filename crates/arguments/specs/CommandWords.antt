@@ -1,5 +1,5 @@
 -- What the words of a command line ask for, by what clap finds in them.
-use Rattle.std.specs.Prelude.{◌≡◌, ◌≢◌, ◌⊎◌, ℕ, List, [], ◌∷◌, Option, Some, None, is_some, ◌&&◌, Bool, if◌then◌else◌, map, drop, slice_get, option_map, unwrap_or, string_bytes, codes, String, true, false}
+use Rattle.std.specs.Prelude.{◌≡◌, ◌≢◌, ◌⊎◌, ℕ, List, [], ◌∷◌, Option, Some, None, is_some, ◌&&◌, Bool, nat_lt, if◌then◌else◌, map, drop, slice_get, option_map, unwrap_or, string_bytes, codes, String, true, false}
 use Rattle.std.specs.Str.Parse.{digits_value, without_leading_plus}
 use Rattle.clap.specs.Words.{App, Row, Rule, Text, Kinds, IsAmong, fault_of, first_of, matches_of, new_app, new_rule, one_of, with_rule, with_subcommand}
 use Rattle.clap.specs.Kinds.{or_else}
@@ -273,6 +273,10 @@ options_of rows = record {
   max_entries = unwrap_or (number_given (codes "max-entries") rows) 1000000;
 }
 
+-- a number, or two where it is less: so many texts a race has
+abbrev pub at_least_two : ℕ → ℕ
+at_least_two number = if nat_lt number 2 then 2 else number
+
 -- how far orders are searched: no limit of time, 1,000,000 entries, 1,000,000 states, 8 texts and 4,096 megabytes where the words
 -- give no other number; whether random orders are tried in place of the search, and from which seed
 abbrev pub search_options_of : List Row → SearchOptions
@@ -280,7 +284,7 @@ search_options_of rows = record {
   until = number_given (codes "until") rows;
   max_entries = unwrap_or (number_given (codes "max-entries") rows) 1000000;
   max_states = unwrap_or (number_given (codes "max-states") rows) 1000000;
-  max_texts = unwrap_or (number_given (codes "max-texts") rows) 8;
+  max_texts = at_least_two (unwrap_or (number_given (codes "max-texts") rows) 8);
   max_memory = unwrap_or (number_given (codes "max-memory") rows) 4096;
   samples = number_given (codes "samples") rows;
   seed = unwrap_or (number_given (codes "seed") rows) 0;
@@ -296,6 +300,7 @@ kind_in_vain vain.TwoOrders = ArgumentConflict
 kind_in_vain vain.NothingObserved = InvalidValue
 kind_in_vain vain.SamplesObserved = ArgumentConflict
 kind_in_vain vain.NoRadix = InvalidValue
+kind_in_vain vain.NoEntries = InvalidValue
 
 -- the words of a run give both a seed and a number of workers, which is answered by this kind of error
 abbrev pub AsksTwoOrders : CommandTask → List Row → ErrorKind → Type 0
@@ -319,9 +324,22 @@ abbrev pub HasNoRadix : Option Text → Type 0
 HasNoRadix None = ⊥
 HasNoRadix (Some letter) = (letter ≢ codes "b") × (letter ≢ codes "d") × (letter ≢ codes "h")
 
--- the words of a telling of a journal give such a letter, which is answered by this kind of error
+-- an entry stands behind another one, if that is given
+abbrev pub is_behind : ℕ → Option ℕ → Bool
+is_behind from (Some to) = nat_lt to from
+is_behind from None = false
+
+-- the first entry that is to be told stands behind the last one
+abbrev pub tells_no_entry : List Row → Bool
+tells_no_entry rows = is_behind (unwrap_or (number_given (codes "from") rows) 1) (number_given (codes "to") rows)
+
+-- a journal is to be told in digits that a letter doesn't stand for, or no entry of it
+abbrev pub TellsNothing : List Row → Type 0
+TellsNothing rows = HasNoRadix (first_of (codes "radix") rows) ⊎ (tells_no_entry rows ≡ true)
+
+-- so the words of a telling of a journal ask, which is answered by this kind of error
 abbrev pub TellsInVain : CommandTask → List Row → ErrorKind → Type 0
-TellsInVain asked rows kind = (asked ≡ task.Explain) × HasNoRadix (first_of (codes "radix") rows) × ((kind ≡ OutOfMemory) ⊎ (kind ≡ InvalidValue))
+TellsInVain asked rows kind = (asked ≡ task.Explain) × TellsNothing rows × ((kind ≡ OutOfMemory) ⊎ (kind ≡ InvalidValue))
 
 -- so it is of words that ask for a task in one of these ways
 abbrev pub AsksInVain : CommandTask → List Row → ErrorKind → Type 0
@@ -382,6 +400,7 @@ pub record IsExplainOf (rows : List Row) (explain : ExplainRequest) : Type 0 whe
   pub journal : first_of (codes "JOURNAL") rows ≡ Some explain.journal.now
   pub from : explain.from ≡ unwrap_or (number_given (codes "from") rows) 1
   pub to : explain.to ≡ number_given (codes "to") rows
+  pub some_entry : tells_no_entry rows ≡ false
   pub radix : explain.radix ≡ radix_given rows
   pub versions : explain.versions ≡ flag_given (codes "versions") rows
   pub registers : first_of (codes "registers") rows ≡ option_map (λ names. names.now) explain.registers
@@ -492,7 +511,7 @@ unfoldable pub other_faults : List Text → Kinds
 other_faults words = or_else (fault_of whole_app words) (MissingSubcommand ∷ [])
 
 -- clap may answer the words by this kind of error, or they ask for a run both by a seed and on workers, or to observe nothing that can be, or something else than lines of
--- random orders, or to be told a journal in digits that a letter doesn't stand for
+-- random orders, or to be told a journal in digits that a letter doesn't stand for, or no entry of it
 pub data MayFail (words : List Text) (kind : ErrorKind) : Type 0 where
   of_run : Begins words (codes "run") → IsAmong kind (run_faults (drop 1 words)) → MayFail words kind
   of_two_orders : Begins words (codes "run") → has_two_orders (run_rows (drop 1 words)) ≡ true → kind ≡ ArgumentConflict → MayFail words kind
@@ -502,7 +521,7 @@ pub data MayFail (words : List Text) (kind : ErrorKind) : Type 0 where
   of_samples : Begins words (codes "races") → is_some (number_given (codes "samples") (races_rows (drop 1 words))) ≡ true → ObservesOther (first_of (codes "observe") (races_rows (drop 1 words))) → kind ≡ ArgumentConflict → MayFail words kind
   of_check : Begins words (codes "check") → IsAmong kind (check_faults (drop 1 words)) → MayFail words kind
   of_explain : Begins words (codes "explain") → IsAmong kind (explain_faults (drop 1 words)) → MayFail words kind
-  of_no_radix : Begins words (codes "explain") → HasNoRadix (first_of (codes "radix") (explain_rows (drop 1 words))) → kind ≡ InvalidValue → MayFail words kind
+  of_no_telling : Begins words (codes "explain") → TellsNothing (explain_rows (drop 1 words)) → kind ≡ InvalidValue → MayFail words kind
   of_waves : Begins words (codes "waves") → IsAmong kind (waves_faults (drop 1 words)) → MayFail words kind
   of_diff : Begins words (codes "diff") → IsAmong kind (diff_faults (drop 1 words)) → MayFail words kind
   of_others : AsksNoTask words → IsAmong kind (other_faults words) → MayFail words kind

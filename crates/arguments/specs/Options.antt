@@ -12,10 +12,10 @@ pub record CanRun (options : RunOptions) : Type 0 where
   pub until : ForSome options.until (λ t. t ≤ last_time)
   pub some_entry : 1 ≤ options.max_entries
 
--- at least one entry, one state, one text and one megabyte, and no time past 2 to the 48
+-- at least one entry, one state, two texts and one megabyte, and no time past 2 to the 48
 pub record CanSearch (search_options : SearchOptions) : Type 0 where
   pub until : ForSome search_options.until (λ t. t ≤ last_time)
   pub some_entry : 1 ≤ search_options.max_entries
   pub some_state : 1 ≤ search_options.max_states
-  pub some_text : 1 ≤ search_options.max_texts
+  pub two_texts : 2 ≤ search_options.max_texts
   pub some_memory : 1 ≤ search_options.max_memory

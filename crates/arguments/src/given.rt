@@ -6,7 +6,7 @@ ghost use Rattle.model.specs.Runs.{last_time};
 ghost use Rattle.arguments.specs.Arguments.{IsGivenArgument, GivesRun, GivesReplay, GivesRaces, GivesCheck, GivesExplain, GivesWaves, GivesDiff, flag_parser, workers_parser, until_parser, entries_parser, seed_parser};
 ghost use Rattle.arguments.specs.Observing.{IsObserved, ObservesNothing};
 ghost use Rattle.arguments.specs.Options.{CanRun, CanSearch};
-ghost use Rattle.arguments.specs.CommandWords.{HasNoRadix, IsCheckOf, IsDiffOf, IsExplainOf, IsRacesOf, IsReplayOf, IsRunOf, IsWavesOf, search_options_of, flag_given, has_two_orders, number_given, options_of, radix_given, radix_of};
+ghost use Rattle.arguments.specs.CommandWords.{HasNoRadix, IsCheckOf, IsDiffOf, IsExplainOf, IsRacesOf, IsReplayOf, IsRunOf, IsWavesOf, at_least_two, is_behind, search_options_of, tells_no_entry, flag_given, has_two_orders, number_given, options_of, radix_given, radix_of};
 
 use crate::observed::{Observed, observed_by};
 use crate::request::{
@@ -105,7 +105,8 @@ const FIRST_ENTRY: u32 = 1;
 /// The explanation that the words of `explain` ask for: from which entry on, and up to which, if that is given, in which digits,
 /// whether with versions, and of which registers alone, if any are given.
 pub fn explain_request<'a>(matches: &ArgMatches<'a>) -> ExplainRequest<'a>
-    requires { GivesExplain (found_of matches.now) }
+    requires given { GivesExplain (found_of matches.now) }
+    requires some { tells_no_entry (rows_of (found_of matches.now)) ≡ false }
     ensures { IsExplainOf (rows_of (found_of matches.now)) result }
 {
     ExplainRequest {
@@ -116,6 +117,25 @@ pub fn explain_request<'a>(matches: &ArgMatches<'a>) -> ExplainRequest<'a>
         radix: given_radix(matches),
         versions: given_flag(matches, "versions"),
         registers: given_text(matches, "registers"),
+    }
+}
+
+/// Whether the first entry that is to be told stands behind the last one.
+pub fn tells_no_entry(matches: &ArgMatches<'_>) -> bool
+    requires { GivesExplain (found_of matches.now) }
+    ensures { result ≡ tells_no_entry (rows_of (found_of matches.now)) }
+{
+    let from = given_count(matches, "from", FIRST_ENTRY);
+    is_behind(from, given_number(matches, "to"))
+}
+
+/// Whether an entry stands behind another one, if that is given.
+fn is_behind(from: u32, to: Option<u32>) -> bool
+    ensures { result ≡ is_behind from to }
+{
+    match to {
+        Some(to) => to < from,
+        None => false,
     }
 }
 
@@ -207,11 +227,19 @@ fn search_options(matches: &ArgMatches<'_>) -> SearchOptions
         until: given_until(matches),
         max_entries: given_count(matches, "max-entries", DEFAULT_MAX_ENTRIES),
         max_states: given_count(matches, "max-states", DEFAULT_MAX_STATES),
-        max_texts: given_count(matches, "max-texts", DEFAULT_MAX_TEXTS),
+        max_texts: at_least_two(given_count(matches, "max-texts", DEFAULT_MAX_TEXTS)),
         max_memory: given_count(matches, "max-memory", DEFAULT_MAX_MEMORY),
         samples: given_number(matches, "samples"),
         seed: given_seed(matches).unwrap_or(DEFAULT_SEED),
     }
+}
+
+/// A number, or two where it is less: so many texts a race has.
+fn at_least_two(number: u32) -> u32
+    ensures least { 2 ≤ result }
+    ensures is { result ≡ at_least_two number }
+{
+    if number < 2 { 2 } else { number }
 }
 
 fn given_workers(matches: &ArgMatches<'_>) -> u32

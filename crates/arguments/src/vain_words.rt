@@ -17,6 +17,8 @@ pub enum VainWords {
     SamplesObserved,
     /// They give a letter that stands for no digits.
     NoRadix,
+    /// They ask for the entries from one on, and up to one before it.
+    NoEntries,
 }
 
 impl VainWords {
@@ -25,7 +27,7 @@ impl VainWords {
         match self {
             VainWords::TwoOrders => CommandTask::Run,
             VainWords::NothingObserved | VainWords::SamplesObserved => CommandTask::Races,
-            VainWords::NoRadix => CommandTask::Explain,
+            VainWords::NoRadix | VainWords::NoEntries => CommandTask::Explain,
         }
     }
 
@@ -35,7 +37,9 @@ impl VainWords {
     {
         match self {
             VainWords::TwoOrders | VainWords::SamplesObserved => ErrorKind::ArgumentConflict,
-            VainWords::NothingObserved | VainWords::NoRadix => ErrorKind::InvalidValue,
+            VainWords::NothingObserved | VainWords::NoRadix | VainWords::NoEntries => {
+                ErrorKind::InvalidValue
+            }
         }
     }
 
@@ -52,6 +56,9 @@ impl VainWords {
                 "the argument '--samples <N>' cannot be used with '--observe <WHAT>', but for lines"
             }
             VainWords::NoRadix => "the argument '--radix <R>' takes b, d or h",
+            VainWords::NoEntries => {
+                "the argument '--to <N>' takes no number below that of '--from <N>'"
+            }
         }
     }
 }

@@ -8,7 +8,7 @@ ghost use Rattle.elaborate.specs.declared.fault.ElabFault.{ElabFault};
 ghost use Rattle.elaborate.specs.Formed.{AreFormedProcesses};
 ghost use Rattle.elaborate.specs.Small.{AreSmallProcesses};
 ghost use Rattle.model.specs.Elaboration as model;
-ghost use Rattle.model.specs.Elaboration.{declared, faults_within};
+ghost use Rattle.model.specs.Elaboration.{declared, faults, faults_within};
 ghost use Rattle.model.specs.SourceTrees.{module_of, source_process_of};
 
 use crate::fault::ElabFault;
@@ -28,7 +28,11 @@ use std::alloc::Global;
 /// The first fault of a module that has one, by the codes E1 to E9: those of the declarations come first, then too
 /// many processes, then names that aren't declared, and then those of the statements, each in the order of the text.
 /// `Memory` where memory is refused.
-pub fn elaborate(alloc: Global, limits: ModuleLimits, source: &Module) -> Result<Design, ElabFault>
+pub fn elaborate_within(
+    alloc: Global,
+    limits: ModuleLimits,
+    source: &Module,
+) -> Result<Design, ElabFault>
     ensures faultless { IfOk result (λ d. faults_within limits (module_of source.now) ≡ []) }
     ensures design { IfOk result (λ d. design_of d ≡ model.design_of_module (module_of source.now)) }
     ensures names { IfOk result (λ d. d.names ≡ map (λ x. x.0) (declared (module_of source.now))) }
@@ -39,12 +43,26 @@ pub fn elaborate(alloc: Global, limits: ModuleLimits, source: &Module) -> Result
     Ok(names.design(alloc, processes)?)
 }
 
-/// As `elaborate`, of a module that is given up piece by piece while its design is made, so that the two never take memory at
+/// As `elaborate_within`, under the limits of the profile.
+///
+/// # Errors
+///
+/// As those of `elaborate_within`.
+pub fn elaborate(alloc: Global, source: &Module) -> Result<Design, ElabFault>
+    ensures faultless { IfOk result (λ d. faults (module_of source.now) ≡ []) }
+    ensures design { IfOk result (λ d. design_of d ≡ model.design_of_module (module_of source.now)) }
+    ensures names { IfOk result (λ d. d.names ≡ map (λ x. x.0) (declared (module_of source.now))) }
+    ensures fault { IfErr result (λ f. IsFirstFault f (faults (module_of source.now))) }
+{
+    elaborate_within(alloc, ModuleLimits::Profile, source)
+}
+
+/// As `elaborate_within`, of a module that is given up piece by piece while its design is made, so that the two never take memory at
 /// once.
 ///
 /// # Errors
 ///
-/// As those of `elaborate`.
+/// As those of `elaborate_within`.
 pub fn elaborate_owned(
     alloc: Global,
     limits: ModuleLimits,

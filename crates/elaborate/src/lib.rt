@@ -6,7 +6,7 @@
 //! 3. `resolve` and `build` put the number of a register in the place of each name.
 //! 4. The tree over numbers goes to `design`, which makes its code.
 //!
-//! What the layer above uses: `elaborate` answers the module's design only where it has no fault, and else its first one.
+//! What the layer above uses: `elaborate_within` answers the module's design only where it has no fault, and else its first one.
 #![tactic(auto)]
 
 mod build;
@@ -20,5 +20,5 @@ mod registers;
 mod resolve;
 mod uses;
 
-pub use elaboration::{elaborate, elaborate_owned};
+pub use elaboration::{elaborate, elaborate_owned, elaborate_within};
 pub use fault::ElabFault;

@@ -76,8 +76,9 @@ first-statement (assigned_later q sign d e end) = (rw q, rw q)
 first-statement (delayed q n d) = (rw q, rw q)
 first-statement (awaited q start es d) = (rw q, rw q)
 first-statement (looped q start d end b) = (rw q, rw q)
-first-statement (printed {task = Task.Display} q start f d end) = (rw q, rw q)
-first-statement (printed {task = Task.Strobe} q start f d end) = (rw q, rw q)
+first-statement (printed {task = Task.Display} {t = t} q start f d end) = let p : t.kind ≡ k.Display = cc in (rw p, rw p)
+first-statement (printed {task = Task.Strobe} {t = t} q start f d end) = let p : t.kind ≡ k.Strobe = cc in (rw p, rw p)
+first-statement (printed {task = Task.Write} q start f d end) = absurd (cc)
 first-statement (finished q end) = (rw q, rw q)
 first-statement (branched q start d end b) = (rw q, rw q)
 first-statement (branched_else q start d end b other o) = (rw q, rw q)
@@ -275,14 +276,17 @@ complete-arguments {rest = rest} (one_argument {e = e} {es = es} {t = t} {ts = t
     ∙ complete-arguments ds budget (m - 1) (found ++ e ∷ []) (omega arith) (omega arith)
     ∙ ap (λ x. Some (x, rest)) (append_assoc found (e ∷ []) (expression_list es))
 
-statement-print : (task : Task) (inner : Parser SourceStatement) (budget : ℕ) (es : List (Expression Text)) (t u v w : PlainToken) (ts rest : PlainTokens) → t.kind ≡ task_kind task → u.kind ≡ k.Open → v.kind ≡ k.Text
+statement-print : (task : Task) (inner : Parser SourceStatement) (budget : ℕ) (es : List (Expression Text)) (t u v w : PlainToken) (ts rest : PlainTokens) → task_kind task ≡ Some t.kind → u.kind ≡ k.Open → v.kind ≡ k.Text
     → parse_list (spec.parse_expression budget) k.Close budget [] ts ≡ Some (es, w ∷ rest) → w.kind ≡ k.Semicolon
     → spec.parse_form inner budget (t ∷ u ∷ v ∷ ts) ≡ Some (tree.Print task (string_text v.text) (source_expressions es), rest)
 unfolding spec.parse_form spec.parse_print
 statement-print Task.Display inner budget es t u v w ts rest q start f read end =
-    let x = expect-is k.Open u (v ∷ ts) start in let y = expect-is k.Text v ts f in let z = expect-is k.Semicolon w rest end in rw (q, x, y, read, z)
+    let p : t.kind ≡ k.Display = cc in
+    let x = expect-is k.Open u (v ∷ ts) start in let y = expect-is k.Text v ts f in let z = expect-is k.Semicolon w rest end in rw (p, x, y, read, z)
 statement-print Task.Strobe inner budget es t u v w ts rest q start f read end =
-    let x = expect-is k.Open u (v ∷ ts) start in let y = expect-is k.Text v ts f in let z = expect-is k.Semicolon w rest end in rw (q, x, y, read, z)
+    let p : t.kind ≡ k.Strobe = cc in
+    let x = expect-is k.Open u (v ∷ ts) start in let y = expect-is k.Text v ts f in let z = expect-is k.Semicolon w rest end in rw (p, x, y, read, z)
+statement-print Task.Write inner budget es t u v w ts rest q start f read end = absurd (cc)
 
 statement-finish : (inner : Parser SourceStatement) (budget : ℕ) (t u : PlainToken) (rest : PlainTokens) → t.kind ≡ k.Finish → u.kind ≡ k.Semicolon → spec.parse_form inner budget (t ∷ u ∷ rest) ≡ Some (tree.Finish, rest)
 unfolding spec.parse_form spec.parse_finish

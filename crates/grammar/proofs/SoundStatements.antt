@@ -138,7 +138,7 @@ sound-arguments budget (suc m) found all ts rest h = elim (if-is (sees k.Comma t
       rw (end.0, sym same.0, sym same.1) (record { more = []; is_all = sym (append-nil found); spells = no_argument end.1 }))
 ]
 
-sound-print : (task : Task) (budget : ℕ) (s : SourceStatement) (ts rest : PlainTokens) → kind ts ≡ task_kind task → spec.parse_print task budget ts ≡ Some (s, rest) → IsStatement s ts rest
+sound-print : (task : Task) (budget : ℕ) (s : SourceStatement) (ts rest : PlainTokens) → task_kind task ≡ Some (kind ts) → spec.parse_print task budget ts ≡ Some (s, rest) → IsStatement s ts rest
 unfolding spec.parse_print
 sound-print task budget s ts rest q h =
     and_then-cases (take ts) _ _ h (λ t us took h1.
@@ -148,7 +148,7 @@ sound-print task budget s ts rest q h =
     and_then-cases (expect k.Semicolon xs) _ _ h4 (λ x ys ended h5.
     let same = some-pair (tree.Print task (string_text v.text) (source_expressions es)) s ys rest h5 in
     let is = take-some ts t us took in
-    let p : t.kind ≡ task_kind task = sym (ap kind is) ∙ q in
+    let p : task_kind task ≡ Some t.kind = q ∙ ap (λ x. Some (kind x)) is in
     let start = expect-some k.Open us u vs opened in
     let f = expect-some k.Text vs v ws format in
     let end = expect-some k.Semicolon xs x ys ended in
@@ -322,8 +322,8 @@ module _ (inner : Parser SourceStatement) (sound : (s : SourceStatement) (ts res
     by k.While q h = sound-loop budget s ts rest q h
     by k.Hash q h = sound-delayed s ts rest q h
     by k.At q h = sound-awaited budget s ts rest q h
-    by k.Display q h = sound-print Task.Display budget s ts rest q h
-    by k.Strobe q h = sound-print Task.Strobe budget s ts rest q h
+    by k.Display q h = sound-print Task.Display budget s ts rest (ap (λ x. Some x) (sym q)) h
+    by k.Strobe q h = sound-print Task.Strobe budget s ts rest (ap (λ x. Some x) (sym q)) h
     by k.Finish q h = sound-finish s ts rest q h
     by _ q h = absurd (cc)
 

@@ -21,7 +21,7 @@ use Rattle.tokens.specs.declared.token.Kind.TheVariants as k
 use Rattle.tokens.specs.Tokens.{PlainToken, PlainTokens}
 use Rattle.tokens.specs.Lexing.{string_text}
 use Rattle.model.specs.declared.tree.Task.{Task}
-use Rattle.model.specs.declared.tree.Task.TheVariants.{Display, Strobe}
+use Rattle.model.specs.declared.tree.Task.TheVariants.{Display, Strobe, Write}
 use Rattle.model.specs.declared.tree.UnaryOperator.{UnaryOperator}
 use Rattle.model.specs.declared.tree.UnaryOperator.TheVariants as un
 use Rattle.model.specs.declared.tree.BinaryOperator.{BinaryOperator}
@@ -65,10 +65,11 @@ prefix k.Bar = Some un.ReduceOr
 prefix k.Caret = Some un.ReduceXor
 prefix _ = None
 
--- The system name of a task that prints a line (17.1).
-abbrev pub task_kind : Task → Kind
-task_kind Display = k.Display
-task_kind Strobe = k.Strobe
+-- The system name of a task that prints a line (17.1); `$write` is none of the profile's.
+abbrev pub task_kind : Task → Option Kind
+task_kind Display = Some k.Display
+task_kind Strobe = Some k.Strobe
+task_kind Write = None
 
 mutual
   -- An expression: one without a conditional operator at its top, or a condition and two expressions, which groups to the
@@ -169,7 +170,7 @@ mutual
         → t.kind ≡ k.While → u.kind ≡ k.Open → IsExpression e ts (v ∷ us) → v.kind ≡ k.Close → IsBeginEnd ss us rest
         → IsStatement (While e ss) (t ∷ u ∷ ts) rest
     printed : {task : Task} {es : Expressions Text} {t u v w : PlainToken} {ts rest : PlainTokens}
-        → t.kind ≡ task_kind task → u.kind ≡ k.Open → v.kind ≡ k.Text → IsArguments es ts (w ∷ rest) → w.kind ≡ k.Semicolon
+        → task_kind task ≡ Some t.kind → u.kind ≡ k.Open → v.kind ≡ k.Text → IsArguments es ts (w ∷ rest) → w.kind ≡ k.Semicolon
         → IsStatement (Print task (string_text v.text) es) (t ∷ u ∷ v ∷ ts) rest
     finished : {t u : PlainToken} {rest : PlainTokens} → t.kind ≡ k.Finish → u.kind ≡ k.Semicolon → IsStatement Finish (t ∷ u ∷ rest) rest
 

@@ -1,5 +1,5 @@
 -- Texts that are known, and texts that are added to them.
-use Rattle.std.proofs.Common.{◌≡◌, ◌⊎◌, ◌∙◌, inl, inr, sym, subst, refl, ℕ, ◌+◌, ◌<◌, ltb, Bool, true, false, IsTrue, IfSome, Option, None, ◌≤◌, List, [], ◌∷◌, ◌++◌, length, get_or, Some, arith, string_bytes}
+use Rattle.std.proofs.Common.{◌≡◌, ◌⊎◌, ◌∙◌, inl, inr, sym, subst, refl, ℕ, ◌+◌, ◌<◌, ltb, Bool, true, false, IsTrue, ◌≤◌, List, [], ◌∷◌, ◌++◌, length, get_or, Some, arith, string_bytes}
 use Rattle.std.specs.List.{All, AllPairs, Contains}
 use Rattle.std.proofs.lemmas.Bool.{ltb-true, ltb-false}
 use Rattle.std.proofs.lemmas.List.{get_or_default}
@@ -22,7 +22,7 @@ use Rattle.races.specs.declared.told.Race.{Race}
 use Rattle.conflicts.specs.declared.bounds.RaceBounds.{RaceBounds}
 use Rattle.arguments.specs.declared.search_options.SearchOptions.{SearchOptions}
 use Rattle.program.specs.declared.known.KnownTexts.{KnownTexts}
-use Rattle.program.specs.Findings.{AreFew, AreKnown, AreRaces, HasGrown, IsKnown, IsLawfulShown, IsShownRun, limits_in}
+use Rattle.program.specs.Findings.{AreFew, AreKnown, AreRaces, AreRacesKnown, HasGrown, IsKnown, IsLawfulShown, IsShownRun, limits_in}
 use Rattle.program.proofs.Few.{no_longer}
 
 -- the text of a run that came to its end is that of a lawful journal
@@ -127,14 +127,20 @@ known_each old new races i item grown few at within before now k d lt = by_place
 pub races_run : (code : Compiled) (limits : Limits) (race_bounds : RaceBounds) (found : Found) → AreRaces code limits race_bounds found → All (λ (race : Race). IsRun code limits race.exchanged) found.races.items
 races_run code limits race_bounds found races k d lt = (races.races k d lt).exchanged
 
+-- what is known of the runs of races stays so where more is known
+pub races_still : (most : ℕ) (found : Found) (shown shown' : List (Shown Entry End)) → Extends shown shown' → length shown' ≤ most → AreRacesKnown most found shown → AreRacesKnown most found shown'
+races_still most found shown shown' more few (first, others) =
+    (known_more most shown shown' found.original more few first, λ k d lt. known_more most shown shown' (get_or found.races.items k d).exchanged more few (others k d lt))
+
 -- what is known of the first run and of the second runs, and then of others
-pub all_known : (code : Compiled) (search_options : SearchOptions) (found : Found) (a b c : KnownTexts) → search_options.samples ≡ None → c.most ≡ search_options.max_texts → All (IsLawfulShown code (limits_in search_options)) c.shown.items → AreFew b → AreFew c
+pub all_known : (code : Compiled) (search_options : SearchOptions) (found : Found) (a b c : KnownTexts) → c.most ≡ search_options.max_texts → All (IsLawfulShown code (limits_in search_options)) c.shown.items → AreFew b → AreFew c
     → HasGrown a b → HasGrown b c → IsKnown a.most a.shown.items found.original → All (λ (race : Race). IsKnown b.most b.shown.items race.exchanged) found.races.items → AreKnown code search_options found c.shown.items
-all_known code search_options found a b c none most lawful few_b few more more' first others = record {
+all_known code search_options found a b c most lawful few_b few more more' first others = record {
   lawful = lawful;
   distinct = few.distinct;
   few = subst (λ (n : ℕ). length c.shown.items ≤ n) most few.few;
-  none = subst (λ (o : Option ℕ). IfSome o (λ asked. c.shown.items ≡ [])) (sym none) tt;
-  first = λ all. subst (λ (n : ℕ). IsKnown n c.shown.items found.original) most (still_known b c found.original more' few.few (still_known a b found.original more few_b.few first));
-  others = λ all k d lt. subst (λ (n : ℕ). IsKnown n c.shown.items (get_or found.races.items k d).exchanged) most (still_known b c (get_or found.races.items k d).exchanged more' few.few (others k d lt));
+  races = (
+    subst (λ (n : ℕ). IsKnown n c.shown.items found.original) most (still_known b c found.original more' few.few (still_known a b found.original more few_b.few first)),
+    λ k d lt. subst (λ (n : ℕ). IsKnown n c.shown.items (get_or found.races.items k d).exchanged) most (still_known b c (get_or found.races.items k d).exchanged more' few.few (others k d lt)),
+  );
 }

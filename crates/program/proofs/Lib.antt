@@ -9,4 +9,5 @@ pub mod Knowing
 pub mod Sampled
 pub mod Searched
 pub mod Statuses
+pub mod StopsMore
 pub mod Waved

@@ -18,7 +18,10 @@ use Rattle.causes.specs.Causes.{AreCauses, HasAnswer}
 use Rattle.causes.specs.declared.causes.Causes.{Causes}
 use Rattle.causes.specs.declared.parting_race.PartingRace.{PartingRace}
 use Rattle.naming.specs.Naming.{TellsBehind, TellsMore, TellsMoreBehind, TellsRaces}
+use Rattle.verdict.specs.Verdicts.{verdict_text}
+use Rattle.verdict.specs.declared.stops.StopDescription.{StopDescription}
 use Rattle.verdict.specs.declared.claim.Claim.{Claim}
+use Rattle.verdict.specs.declared.claim.SampledOrders.{SampledOrders}
 use Rattle.verdict.specs.declared.claim.Claim.TheVariants.{Every, SoFar, Sampled}
 use Rattle.verdict.specs.declared.claim.SearchStop.TheVariants.{States, Texts, Entries, Megabytes, Memory}
 use Rattle.std.specs.Io.KnownBytes.{Appends, Keeps}
@@ -27,12 +30,12 @@ use Rattle.files.specs.Saved.{IsHeld, KeepsFiles, MadeFile, SavesAllWhereAsked, 
 use Rattle.arguments.specs.declared.search_options.SearchOptions.{SearchOptions}
 use Rattle.program.specs.declared.finding.SearchFinding.{SearchFinding}
 use Rattle.program.specs.declared.fault.CommandFault.{CommandFault}
-use Rattle.program.specs.Findings.{AreFound, AreOfSeeds, IsFound, IsLawfulShown, IsClaimWithin, OnEvery, OnSampled, claim_of, endless_number, finding_of, journals_of, limits_in, some_journal, search_stop_of, unless_stopped}
+use Rattle.program.specs.Findings.{AreFound, AreOfSeeds, AreRacesKnown, IsFound, IsLawfulShown, IsClaimWithin, HaveSomeEnds, OnEvery, OnSampled, claim_of, endless_number, finding_of, first_text, have_stops, journals_of, limits_in, some_journal, search_stop_of, stops_from, unless_stopped, until_line}
 use Rattle.program.specs.declared.racing.NamedRaces.{NamedRaces}
 use Rattle.program.specs.declared.racing.ToldRaces.{ToldRaces}
 use Rattle.program.specs.Printed.{HasFound, HasLeft, HasSavedSome, HasShown, IsToldFirst, IsToldLast, IsToldMore}
 use Rattle.program.specs.Program.{status_of}
-use Rattle.program.proofs.Knowing.{all_of_each, few_shown}
+use Rattle.program.proofs.Knowing.{all_of_each, few_shown, races_still}
 use Rattle.program.proofs.Ended.{all_saved_on, appends_then, kept_on, some_saved_on}
 use Rattle.program.proofs.Explained.{appends_kept}
 
@@ -65,7 +68,7 @@ claim_all P search_options (Some stopped.Bytes) nodes endless h = tt
 claim_all P search_options (Some stopped.Memory) nodes endless h = tt
 
 -- no random orders were tried
-claim_seeds : (P : ℕ → Type 0) (search_options : SearchOptions) (s : Option Stopped) (nodes : ℕ) (endless : Option ℕ) → OnSampled (claim_of search_options s nodes endless) P
+claim_seeds : (P : SampledOrders → Type 0) (search_options : SearchOptions) (s : Option Stopped) (nodes : ℕ) (endless : Option ℕ) → OnSampled (claim_of search_options s nodes endless) P
 claim_seeds P search_options None nodes endless = tt
 claim_seeds P search_options (Some stopped.Nodes) nodes endless = tt
 claim_seeds P search_options (Some stopped.Shown) nodes endless = tt
@@ -148,7 +151,7 @@ searched_found items code search_options s t nodes found told number claim added
       within = claim_within search_options t nodes number (length ss) none few (λ is. shown_full s added search_options.max_texts others ss (sym stops ∙ is) most apart there full);
       all = claim_all (AreAllTexts (design_of code) (limits_in search_options) (IsShown ss)) search_options t nodes number (λ is. every (not_stopped s added (sym stops ∙ is)));
       never = told_never items (orders.IsEndlessJournal (design_of code) (limits_in search_options)) t found told tells never;
-      seeds = claim_seeds (AreOfSeeds code (limits_in search_options) search_options.seed ss) search_options t nodes number;
+      seeds = claim_seeds (AreOfSeeds code (limits_in search_options) search_options.seed search_options.max_texts ss) search_options t nodes number;
       numbered = claim_number items search_options t nodes (length ss) found told number tells counted;
     })
   where
@@ -214,14 +217,31 @@ told_behind source code search_options prefix races claim shown texts more said 
   last_is = is ∙ ap (λ l. more ++ l) are;
 }
 
+-- what is said of texts behind a search
+pub told_last : (search_options : SearchOptions) (prefix : Option (List ℕ)) (end : End) (claim : Claim) (texts shown : List (Shown Entry End)) (ends : Bool) (first : List ℕ) (stops : List StopDescription) (empty middle line last : List ℕ) → shown ≡ texts → HaveSomeEnds shown ends
+    → first ≡ first_text shown → stops ≡ stops_from 1 shown → empty ≡ [] → middle ≡ empty ++ verdict_text claim search_options.until (length shown) ends first stops prefix → last ≡ middle ++ line → line ≡ until_line search_options.until claim end
+    → IsToldLast search_options prefix end claim texts last
+told_last search_options prefix end claim texts shown ends first stops empty middle line last same apart begins short none told is until =
+    let said : middle ≡ verdict_text claim search_options.until (length shown) ends (first_text shown) (stops_from 1 shown) prefix =
+    told
+    ∙ (ap (λ (l : List ℕ). l ++ verdict_text claim search_options.until (length shown) ends first stops prefix) none
+    ∙ (ap (λ (f : List ℕ). verdict_text claim search_options.until (length shown) ends f stops prefix) begins
+    ∙ ap (λ (l : List StopDescription). verdict_text claim search_options.until (length shown) ends (first_text shown) l prefix) short)) in
+    subst (λ (ss : List (Shown Entry End)). IsToldLast search_options prefix end claim ss last) same (record {
+      ends = ends;
+      apart = apart;
+      text_is = is ∙ (ap (λ (l : List ℕ). middle ++ l) until ∙ ap (λ (l : List ℕ). l ++ until_line search_options.until claim end) said);
+    })
+
 found_behind : (source : List ℕ) (code : Compiled) (search_options : SearchOptions) (prefix : Option (List ℕ)) (early : ToldRaces) (claim : Claim) (shown : List (Shown Entry End)) (endless : Option (List Entry)) (last : List ℕ) → AreFound code search_options claim shown endless
-    → Extends early.known.items shown → IsToldBehind source code search_options prefix early.races claim shown last → HasFound source code search_options prefix early last
-found_behind source code search_options prefix early claim shown endless last are_found grown is_last = record {
+    → Extends early.known.items shown → AreRacesKnown search_options.max_texts early.races.found early.known.items → IsToldBehind source code search_options prefix early.races claim shown last → HasFound source code search_options prefix early last
+found_behind source code search_options prefix early claim shown endless last are_found grown known is_last = record {
   claim = claim;
   shown = shown;
   endless = endless;
   are_found = are_found;
   grown = grown;
+  races_known = races_still search_options.max_texts early.races.found early.known.items shown grown are_found.few known;
   more = is_last.more;
   is_more = is_last.is_more;
   said = is_last.said;
@@ -233,7 +253,7 @@ found_behind source code search_options prefix early claim shown endless last ar
 pub search_shown : (holding : Option (List ℕ → List ℕ)) (file : List ℕ) (source : List ℕ) (code : Compiled) (search_options : SearchOptions) (prefix : Option (List ℕ)) (early : ToldRaces) (claim : Claim) (shown : List (Shown Entry End)) (endless : Option (List Entry)) (a b c : Option (List ℕ))
     (files tried files' : Option (List MadeFile)) (last : List ℕ) (found : SearchFinding) → IsHeld holding file source → IsDesignOf source code → ((first : List ℕ) × IsToldFirst source code search_options prefix early first × Appends a b first)
     → AreFound code search_options claim shown endless → Extends early.known.items shown → IsToldBehind source code search_options prefix early.races claim shown last → Appends b c last → KeepsFiles files tried → SavesAllWhereAsked tried files' prefix (journals_of shown endless)
-    → found ≡ finding_of claim (length shown) → HasShown holding file search_options prefix a c files files' found
+    → found ≡ finding_of claim (length shown) (have_stops shown) → HasShown holding file search_options prefix a c files files' found
 unfolding found_behind
 search_shown holding file source code search_options prefix early claim shown endless a b c files tried files' last found held is_design (first, is_first, begins) are_found grown is_last ends kept saved is = record {
   source = source;
@@ -244,7 +264,7 @@ search_shown holding file source code search_options prefix early claim shown en
   first = first;
   is_first = is_first;
   last = last;
-  has_found = found_behind source code search_options prefix early claim shown endless last are_found grown is_last;
+  has_found = found_behind source code search_options prefix early claim shown endless last are_found grown is_first.are_known.races is_last;
   printed = appends_then a b c first last begins ends;
   saved = all_saved_on files tried files' prefix (journals_of shown endless) kept saved;
   finding = is;
@@ -290,7 +310,7 @@ search_left holding file source code search_options prefix early claim shown end
   is_first = is_first;
   left = inr (record {
     last = last;
-    has_found = found_behind source code search_options prefix early claim shown endless last are_found grown is_last;
+    has_found = found_behind source code search_options prefix early claim shown endless last are_found grown is_first.are_known.races is_last;
     printed = appends_then a b c first last begins ends;
     saved = some_saved_on files tried files' prefix (journals_of shown endless) kept saved;
   });
@@ -310,7 +330,7 @@ texts_left holding file source code search_options prefix early claim shown endl
 pub texts_shown : (holding : Option (List ℕ → List ℕ)) (file : List ℕ) (source : List ℕ) (code : Compiled) (search_options : SearchOptions) (prefix : Option (List ℕ)) (early : ToldRaces) (claim : Claim) (shown : List (Shown Entry End)) (endless : Option (List Entry)) (a b c : Option (List ℕ))
     (files tried files' : Option (List MadeFile)) (last : List ℕ) (r : Result SearchFinding CommandFault) → IsHeld holding file source → IsDesignOf source code → ((first : List ℕ) × IsToldFirst source code search_options prefix early first × Appends a b first)
     → AreFound code search_options claim shown endless → Extends early.known.items shown → IsToldBehind source code search_options prefix early.races claim shown last → KeepsFiles files tried → OnOk r (Appends b c last)
-    → OnOk r (SavesAllWhereAsked tried files' prefix (journals_of shown endless)) → IfOk r (λ found. found ≡ finding_of claim (length shown)) → IfOk r (HasShown holding file search_options prefix a c files files')
+    → OnOk r (SavesAllWhereAsked tried files' prefix (journals_of shown endless)) → IfOk r (λ found. found ≡ finding_of claim (length shown) (have_stops shown)) → IfOk r (HasShown holding file search_options prefix a c files files')
 texts_shown holding file source code search_options prefix early claim shown endless a b c files tried files' last (Ok found) held is_design first are_found grown is_last kept ends saved is =
     search_shown holding file source code search_options prefix early claim shown endless a b c files tried files' last found held is_design first are_found grown is_last ends kept saved is
 texts_shown holding file source code search_options prefix early claim shown endless a b c files tried files' last (Err f) held is_design first are_found grown is_last kept ends saved is = tt

@@ -21,12 +21,13 @@ use Rattle.std.proofs.lemmas.List.Elements.{All-nil, All-cons, All-head, All-tai
 use Rattle.arguments.specs.declared.search_options.SearchOptions.{SearchOptions}
 use Rattle.arguments.specs.declared.observed.Observed.{Observed}
 use Rattle.files.specs.Saved.{IsHeld, KeepsFiles, MadeFile, SavesAllWhereAsked, SavesSomeWhereAsked}
-use Rattle.program.specs.Findings.{OnEvery, endless_number, finding_of, first_text, journals_of, limits_in, search_stop_of, unless_stopped}
+use Rattle.program.specs.Findings.{OnEvery, endless_number, finding_of, first_text, have_stops, journals_of, limits_in, search_stop_of, stops_from, unless_stopped}
 use Rattle.program.specs.Observed.{AreAllWaves, AreFoundWaves, AreRegistersAsked, AreRegistersOf, AreWavesSaid, HasFoundWaves, HasLeftWaves, HasNoRegister, HasObserved, HasArrangedTexts, HasSaidWaves, HasSavedWaves, IsLawfulWave, IsNameTold, IsObservedEnding, IsWaveClaimWithin, observer_of_registers, texts_bound, wave_claim_of}
 use Rattle.program.specs.declared.ending.Ending.{Ending}
 use Rattle.program.specs.declared.ending.Ending.TheVariants as ending
 use Rattle.frontend.specs.Sources.{IsDesignOf}
 use Rattle.verdict.specs.WaveLines.{wave_verdict_text}
+use Rattle.verdict.specs.declared.stops.StopDescription.{StopDescription}
 use Rattle.wavetexts.specs.AtTimes.{printed_lines}
 use Rattle.wavetexts.specs.ToldWaves.{TellsWaves}
 use Rattle.wavetexts.specs.Names.{AreNamed, NamesRegisters, NamesUnknown}
@@ -162,7 +163,7 @@ said_waves code asked search_options prefix registers claim waves endless said o
 
 pub found_waves : (code : Compiled) (asked : Observed) (search_options : SearchOptions) (prefix : Option (List ℕ)) (registers : List ℕ) (claim : Claim) (waves : List (Shown Entry End)) (endless : Option (List Entry)) (said : List ℕ) (old new : Option (List ℕ)) (a b c : Option (List MadeFile)) (f : SearchFinding)
     → AreRegistersOf code asked registers → AreFoundWaves code search_options registers claim waves endless → AreWavesSaid code registers search_options prefix claim waves said → Appends old new said → KeepsFiles a b → SavesAllWhereAsked b c prefix (journals_of waves endless)
-    → f ≡ finding_of claim (length waves) → HasFoundWaves code asked search_options prefix old new a c f
+    → f ≡ finding_of claim (length waves) (have_stops waves) → HasFoundWaves code asked search_options prefix old new a c f
 unfolding said_waves
 found_waves code asked search_options prefix registers claim waves endless said old new a b c f are found told printed before saved is = record {
   has_said = said_waves code asked search_options prefix registers claim waves endless said old new are found told printed;
@@ -214,13 +215,15 @@ texts_of_waves Q (s ∷ ss) (w ∷ ws) ((text, end, moves), more) all =
 
 -- what is said of waves
 
-pub waves_said : (code : Compiled) (registers : List ℕ) (search_options : SearchOptions) (prefix : Option (List ℕ)) (claim : Claim) (waves shown : List (Shown Entry End)) (empty parts said first : List ℕ) (lines : ℕ) → shown ≡ waves → empty ≡ [] → TellsWaves code.names registers prefix shown empty parts
-    → said ≡ parts ++ wave_verdict_text claim search_options.until (length shown) (length registers) lines prefix → first ≡ first_text shown → lines ≡ printed_lines (length registers) first → AreWavesSaid code registers search_options prefix claim waves said
-waves_said code registers search_options prefix claim waves shown empty parts said first lines same none tells is begins printed =
+pub waves_said : (code : Compiled) (registers : List ℕ) (search_options : SearchOptions) (prefix : Option (List ℕ)) (claim : Claim) (waves shown : List (Shown Entry End)) (empty parts said first : List ℕ) (lines : ℕ) (stops : List StopDescription) → shown ≡ waves → empty ≡ [] → TellsWaves code.names registers prefix shown empty parts
+    → said ≡ parts ++ wave_verdict_text claim search_options.until (length shown) (length registers) lines stops prefix → first ≡ first_text shown → lines ≡ printed_lines (length registers) first → stops ≡ stops_from 1 shown → AreWavesSaid code registers search_options prefix claim waves said
+waves_said code registers search_options prefix claim waves shown empty parts said first lines stops same none tells is begins printed short =
     subst (λ (ws : List (Shown Entry End)). AreWavesSaid code registers search_options prefix claim ws said) same (record {
       parts = parts;
       tells = subst (λ (l : List ℕ). TellsWaves code.names registers prefix shown l parts) none tells;
-      said_is = is ∙ ap (λ (n : ℕ). parts ++ wave_verdict_text claim search_options.until (length shown) (length registers) n prefix) (printed ∙ ap (printed_lines (length registers)) begins);
+      said_is =
+          is ∙ (ap (λ (n : ℕ). parts ++ wave_verdict_text claim search_options.until (length shown) (length registers) n stops prefix) (printed ∙ ap (printed_lines (length registers)) begins)
+          ∙ ap (λ (l : List StopDescription). parts ++ wave_verdict_text claim search_options.until (length shown) (length registers) (printed_lines (length registers) (first_text shown)) l prefix) short);
     })
 
 -- the registers that a list of names means, or the first name that no register has, where they are asked for

@@ -1,6 +1,6 @@
 -- What a search of lawful orders finds, what it claims, and how its exit status tells it.
-use Rattle.std.specs.Prelude.{◌≡◌, ◌⊎◌, ℕ, ◌+◌, ◌==◌, ◌≤◌, Bool, true, false, nat_lt, if◌then◌else◌, List, [], ◌∷◌, ◌++◌, length, map, Option, Some, None, IfSome, Result, Ok, Err, option_map, string_bytes, codes}
-use Rattle.std.specs.List.{All, AllPairs}
+use Rattle.std.specs.Prelude.{◌≡◌, ◌⊎◌, ℕ, ◌+◌, ◌==◌, ◌≤◌, Bool, true, false, nat_lt, if◌then◌else◌, List, [], ◌∷◌, ◌++◌, length, map, Option, Some, None, IfSome, IsTrue, Result, Ok, Err, option_map, string_bytes, codes}
+use Rattle.std.specs.List.{All, AllPairs, Any, list_any}
 use Rattle.model.specs.declared.entry.Entry.{Entry}
 use Rattle.model.specs.declared.end.End.{End}
 use Rattle.model.specs.declared.end.End.TheVariants as ending
@@ -17,12 +17,18 @@ use Rattle.explore.specs.Search.{AreDistinct, IsShown}
 use Rattle.runs.specs.RunRecords as recorded
 use Rattle.runs.specs.Compared.{IsWhole}
 use Rattle.seeded.specs.Seeds.{AreSampled}
+use Rattle.seeded.specs.declared.samples.SampleStop.{SampleStop}
+use Rattle.seeded.specs.declared.samples.SampleStop.TheVariants as sample_stop
 use Rattle.runs.specs.declared.run.RunRecord.{RunRecord}
 use Rattle.model.specs.Texts as orders
 use Rattle.races.specs.Races as shown_races
 use Rattle.races.specs.Unseen.{IsUnseen}
 use Rattle.races.specs.declared.told.Found.{Found}
 use Rattle.conflicts.specs.declared.bounds.RaceBounds.{RaceBounds}
+use Rattle.verdict.specs.declared.stops.StopCause.{StopCause}
+use Rattle.verdict.specs.declared.stops.StopCause.TheVariants.{LongTurn, LastTime}
+use Rattle.verdict.specs.declared.stops.StopDescription.{StopDescription}
+use Rattle.verdict.specs.declared.claim.SampledOrders.{SampledOrders}
 use Rattle.verdict.specs.declared.claim.Claim.{Claim}
 use Rattle.verdict.specs.declared.claim.Claim.TheVariants.{Every, SoFar, Sampled}
 use Rattle.verdict.specs.declared.claim.SearchStop.{SearchStop}
@@ -32,10 +38,15 @@ use Rattle.program.specs.declared.known.KnownTexts.{KnownTexts}
 use Rattle.program.specs.declared.finding.SearchFinding.{SearchFinding}
 use Rattle.program.specs.declared.finding.SearchFinding.TheVariants as finding
 
--- what one text is that is all that runs with an end print: the only one, unless some runs come to no end
-abbrev pub only_of : Option ℕ → SearchFinding
-only_of None = finding.One
-only_of (Some number) = finding.Unfinished
+-- what one text is that every lawful run prints, by whether that stops short
+abbrev pub every_of : Bool → SearchFinding
+every_of false = finding.One
+every_of true = finding.Unfinished
+
+-- what one text is that is all that is printed: the only one, unless some runs come to no end, or its run stops short
+abbrev pub only_of : Option ℕ → Bool → SearchFinding
+only_of None stops = every_of stops
+only_of (Some number) stops = finding.Unfinished
 
 -- what no or one text is where a search stopped
 abbrev pub finding_of_stop : SearchStop → SearchFinding
@@ -45,15 +56,54 @@ finding_of_stop (Entries most) = finding.Unfinished
 finding_of_stop (Megabytes most) = finding.Unfinished
 finding_of_stop Memory = finding.Memory
 
--- what no or one text is, of which this is claimed
-abbrev pub few_of : Claim → ℕ → SearchFinding
-few_of (Every states endless) count = if count == 1 then only_of endless else finding.Unfinished
-few_of (SoFar search_stop) count = finding_of_stop search_stop
-few_of (Sampled orders) count = finding.Unfinished
+-- what no or one text is where random orders were tried, by why no more were
+abbrev pub sampled_of : Option SearchStop → SearchFinding
+sampled_of None = finding.Unfinished
+sampled_of (Some search_stop) = finding_of_stop search_stop
 
--- what so many texts are, of which this is claimed
-abbrev pub finding_of : Claim → ℕ → SearchFinding
-finding_of claim count = if nat_lt 1 count then finding.Several else few_of claim count
+-- what no or one text is, of which this is claimed, by whether its run stops short
+abbrev pub few_of : Claim → ℕ → Bool → SearchFinding
+few_of (Every states endless) count stops = if count == 1 then only_of endless stops else finding.Unfinished
+few_of (SoFar search_stop) count stops = finding_of_stop search_stop
+few_of (Sampled orders) count stops = sampled_of orders.stop
+
+-- what so many texts are, of which this is claimed, by whether the run of one of them stops short
+abbrev pub finding_of : Claim → ℕ → Bool → SearchFinding
+finding_of claim count stops = if nat_lt 1 count then finding.Several else few_of claim count stops
+
+-- why a run stops short that was stopped for this: by a turn that is too long, or where the time would pass the last one
+abbrev pub cause_of_stop : Why → Option StopCause
+cause_of_stop (why.TooLong process) = Some (LongTurn process)
+cause_of_stop why.Time = Some LastTime
+cause_of_stop why.Finish = None
+cause_of_stop why.Until = None
+cause_of_stop why.Entries = None
+cause_of_stop why.Memory = None
+
+-- why a run with this end stops short, if it does
+abbrev pub stop_cause : End → Option StopCause
+stop_cause ending.Quiet = None
+stop_cause ending.Running = None
+stop_cause (ending.Stopped why) = cause_of_stop why
+
+-- whether there is one
+abbrev pub has_cause : Option StopCause → Bool
+has_cause None = false
+has_cause (Some cause) = true
+
+-- the run of one of these texts stops short
+abbrev pub have_stops : List (Shown Entry End) → Bool
+have_stops shown = list_any (λ s. has_cause (stop_cause s.end)) shown
+
+-- for such a cause, that the entry with a number isn't taken by the run of the text with another one
+abbrev pub stop_in_text : ℕ → ℕ → Option StopCause → List StopDescription
+stop_in_text number entry None = []
+stop_in_text number entry (Some cause) = record { number = number; entry = entry; cause = cause } ∷ []
+
+-- of each of these texts, which have numbers from one on, whose run stops short, the entry that would come next in its journal, and why it isn't taken
+abbrev pub stops_from : ℕ → List (Shown Entry End) → List StopDescription
+stops_from number [] = []
+stops_from number (s ∷ ss) = stop_in_text number (length s.moves.items + 1) (stop_cause s.end) ++ stops_from (number + 1) ss
 
 -- a search was stopped by a limit, and not by want of memory
 abbrev pub is_limit : SearchStop → Bool
@@ -99,9 +149,18 @@ OnEvery (Every states endless) P = P
 OnEvery (SoFar search_stop) P = Unit {0}
 OnEvery (Sampled orders) P = Unit {0}
 
+-- Why no more random orders were tried keeps to what was asked: where nothing is told, all were, and the limit of texts, or of entries, is the one that was given.
+abbrev pub IsSampleStop : SearchOptions → ℕ → ℕ → Option SearchStop → Type 0
+IsSampleStop search_options made asked None = made ≡ asked
+IsSampleStop search_options made asked (Some (States most)) = ⊥
+IsSampleStop search_options made asked (Some (Texts most)) = most ≡ search_options.max_texts
+IsSampleStop search_options made asked (Some (Entries most)) = most ≡ search_options.max_entries
+IsSampleStop search_options made asked (Some (Megabytes most)) = ⊥
+IsSampleStop search_options made asked (Some Memory) = Unit {0}
+
 -- The claim, on so many texts, keeps to what was asked. Of a search of all orders it has no more states than the search may reach, and names the limit of states,
--- texts, entries or megabytes that was given, and that of texts only where so many were found. Of random orders no more were tried than were asked for, and no fewer
--- than there are texts.
+-- texts, entries or megabytes that was given, and that of texts only where so many were found. Of random orders no more were tried than were asked for, and where fewer
+-- were it says why.
 abbrev pub IsClaimWithin : SearchOptions → ℕ → Claim → Type 0
 IsClaimWithin search_options count (Every states endless) = (search_options.samples ≡ None) × (states ≤ search_options.max_states)
 IsClaimWithin search_options count (SoFar (States most)) = (search_options.samples ≡ None) × (most ≡ search_options.max_states)
@@ -109,7 +168,8 @@ IsClaimWithin search_options count (SoFar (Texts most)) = (search_options.sample
 IsClaimWithin search_options count (SoFar (Entries most)) = (search_options.samples ≡ None) × (most ≡ search_options.max_entries)
 IsClaimWithin search_options count (SoFar (Megabytes most)) = (search_options.samples ≡ None) × (most ≡ search_options.max_memory)
 IsClaimWithin search_options count (SoFar Memory) = search_options.samples ≡ None
-IsClaimWithin search_options count (Sampled orders) = (asked : ℕ) × (search_options.samples ≡ Some asked) × (orders ≤ asked) × (count ≤ orders)
+IsClaimWithin search_options count (Sampled orders) =
+    (search_options.samples ≡ Some orders.asked) × (orders.made ≤ orders.asked) × IsSampleStop search_options orders.made orders.asked orders.stop
 
 -- what is claimed of a search that stopped for this, or didn't, and reached so many states; the journal with this number comes to no end, if one does
 abbrev pub claim_of : SearchOptions → Option Stopped → ℕ → Option ℕ → Claim
@@ -160,26 +220,66 @@ IsLawfulShown code limits s = IsLawfulText (design_of code) limits s.moves.items
 abbrev pub IsFound : Claim → Compiled → Limits → Shown Entry End → Type 0
 IsFound (Every states endless) code limits s = IsLawfulShown code limits s
 IsFound (SoFar search_stop) code limits s = IsLawfulShown code limits s
-IsFound (Sampled orders) code limits s = (run : RunRecord) × IsShownRun run s × recorded.IsRun code limits run
+IsFound (Sampled orders) code limits s = IsLawfulShown code limits s ⊎ ((run : RunRecord) × IsShownRun run s × recorded.IsRun code limits run)
 
--- these texts, with their ends and their journals, are those of these runs, one by one
-abbrev pub AreOf : List RunRecord → List (Shown Entry End) → Type 0
-AreOf [] [] = Unit {0}
-AreOf [] (s ∷ ss) = ⊥
-AreOf (r ∷ rs) [] = ⊥
-AreOf (r ∷ rs) (s ∷ ss) = IsShownRun r s × AreOf rs ss
+-- a run is shown: all are, or it came to its end
+abbrev pub IsWantedRun : Bool → RunRecord → Type 0
+IsWantedRun all run = IsWhole run ⊎ IsTrue all
+
+-- the text, the end and the journal are those of this run, which is shown
+abbrev pub IsShownWanted : Bool → RunRecord → Shown Entry End → Type 0
+IsShownWanted all run s = IsShownRun run s × IsWantedRun all run
+
+-- the text of a run was put behind others, if it is shown
+abbrev pub IsRunShownBehind : Bool → RunRecord → List (Shown Entry End) → List (Shown Entry End) → Type 0
+IsRunShownBehind all run old new = ((s : Shown Entry End) × IsShownWanted all run s × (new ≡ old ++ s ∷ [])) ⊎ ((new ≡ old) × (IsWantedRun all run → ⊥))
+
+-- where a run came to its end, its text and its end are among these, unless as many as may be are
+abbrev pub IsKnown : ℕ → List (Shown Entry End) → RunRecord → Type 0
+IsKnown most shown run = IsWhole run → IsShown shown (string_bytes run.lines) run.end ⊎ (length shown ≡ most)
+
+-- why no more random orders were tried, if fewer were than asked for
+abbrev pub own_stop : SearchOptions → Option SampleStop → Option SearchStop
+own_stop search_options (Some sample_stop.Kept) = Some (Texts search_options.max_texts)
+own_stop search_options (Some sample_stop.Entries) = Some (Entries search_options.max_entries)
+own_stop search_options (Some sample_stop.Memory) = Some Memory
+own_stop search_options None = None
+
+-- so it is where the texts of these were put behind those that are known; for the most texts where one of them was left out
+abbrev pub sampled_stop : SearchOptions → Option SampleStop → Bool → Option SearchStop
+sampled_stop search_options stop true = own_stop search_options stop
+sampled_stop search_options stop false = Some (Texts search_options.max_texts)
 
 -- P, where random orders were tried
-abbrev pub OnSampled : Claim → (ℕ → Type 0) → Type 0
+abbrev pub OnSampled : Claim → (SampledOrders → Type 0) → Type 0
 OnSampled (Every states endless) P = Unit {0}
 OnSampled (SoFar search_stop) P = Unit {0}
 OnSampled (Sampled orders) P = P orders
 
--- So many random orders were tried, of this seed and those that follow it, and these texts are those that were kept of them.
-pub record AreOfSeeds (design : Compiled) (limits : Limits) (first : ℕ) (shown : List (Shown Entry End)) (orders : ℕ) : Type 0 where
+-- P, where no more random orders were tried for the most texts
+abbrev pub OnTexts : Option SearchStop → Type 0 → Type 0
+OnTexts None P = Unit {0}
+OnTexts (Some (States most)) P = Unit {0}
+OnTexts (Some (Texts most)) P = P
+OnTexts (Some (Entries most)) P = Unit {0}
+OnTexts (Some (Megabytes most)) P = Unit {0}
+OnTexts (Some Memory) P = Unit {0}
+
+-- the text and the end of each of these runs are among these, unless as many as may be are
+abbrev pub AreAllAmong : ℕ → List (Shown Entry End) → List RunRecord → Type 0
+AreAllAmong most shown runs = All (λ run. IsShown shown (string_bytes run.lines) run.end ⊎ (length shown ≡ most)) runs
+
+-- So many random orders were tried, of this seed and those that follow it. Each of these texts is that of one that was kept, or of a lawful journal, as one that was known. Of each
+-- that was kept and came to its end the text and the end are among these, unless as many as may be are. Those that were cut off are only where none was known: then all are those
+-- that were kept, and all of these are among them. Where no more were tried for the most texts, as many were kept or are among these.
+pub record AreOfSeeds (design : Compiled) (limits : Limits) (first most : ℕ) (shown : List (Shown Entry End)) (orders : SampledOrders) : Type 0 where
   pub kept : List RunRecord
-  pub sampled : AreSampled design limits first orders kept
-  pub are_of : AreOf kept shown
+  pub sampled : AreSampled design limits first orders.made kept
+  pub few : length kept ≤ orders.made
+  pub from : All (λ s. IsLawfulShown design limits s ⊎ Any (λ run. IsShownRun run s) kept) shown
+  pub there : All (IsKnown most shown) kept
+  pub cut : All (IsLawfulShown design limits) shown ⊎ (All (λ s. Any (λ run. IsShownRun run s) kept) shown × AreAllAmong most shown kept)
+  pub full : OnTexts orders.stop ((length kept ≡ most) ⊎ (length shown ≡ most))
 
 -- Of a design these texts were found, each with its end and a lawful journal in time that has both. No two have one text and
 -- one end, and they are no more than were asked for. Where it is claimed that they are all, each lawful journal in time has its lines and its end among them, but for
@@ -192,7 +292,7 @@ pub record AreFound (design : Compiled) (search_options : SearchOptions) (claim 
   pub within : IsClaimWithin search_options (length shown) claim
   pub all : OnEvery claim (AreAllTexts (design_of design) (limits_in search_options) (IsShown shown))
   pub never : IfSome endless (orders.IsEndlessJournal (design_of design) (limits_in search_options))
-  pub seeds : OnSampled claim (AreOfSeeds design (limits_in search_options) search_options.seed shown)
+  pub seeds : OnSampled claim (AreOfSeeds design (limits_in search_options) search_options.seed search_options.max_texts shown)
   pub numbered : endless_number claim ≡ option_map (λ journal. length shown + 1) endless
 
 -- the first text, if there is one
@@ -229,10 +329,6 @@ pub record AreRaces (design : Compiled) (limits : Limits) (race_bounds : RaceBou
   pub within : shown_races.IsWithinBounds race_bounds found.races.items found.tried found.cut
   pub unseen : IfSome found.unseen (IsUnseen design limits found.original)
 
--- where a run came to its end, its text and its end are among these, unless as many as may be are
-abbrev pub IsKnown : ℕ → List (Shown Entry End) → RunRecord → Type 0
-IsKnown most shown run = IsWhole run → IsShown shown (string_bytes run.lines) run.end ⊎ (length shown ≡ most)
-
 -- the texts are no more than they may be, and no two of them have one text and one end
 pub record AreFew (known : KnownTexts) : Type 0 where
   pub few : length known.shown.items ≤ known.most
@@ -243,12 +339,14 @@ pub record HasGrown (old new : KnownTexts) : Type 0 where
   pub most : new.most ≡ old.most
   pub shown : Extends old.shown.items new.shown.items
 
--- The texts that are known before a search of all orders: each with its end and a lawful journal that has both, no two the same, and no more than are asked for; those of the
--- first run and of each race's second run are among them. None is where random orders are tried in place of the search.
+-- of the first run and of each race's second run that came to its end the text and the end are among these, unless as many as may be are
+abbrev pub AreRacesKnown : ℕ → Found → List (Shown Entry End) → Type 0
+AreRacesKnown most found shown = IsKnown most shown found.original × All (λ race. IsKnown most shown race.exchanged) found.races.items
+
+-- The texts that are known before all orders are searched, or random ones tried: each with its end and a lawful journal that has both, no two the same, and no more than are
+-- asked for; those of the first run and of each race's second run are among them.
 pub record AreKnown (design : Compiled) (search_options : SearchOptions) (found : Found) (known : List (Shown Entry End)) : Type 0 where
   pub lawful : All (IsLawfulShown design (limits_in search_options)) known
   pub distinct : AllPairs AreDistinct known
   pub few : length known ≤ search_options.max_texts
-  pub none : IfSome search_options.samples (λ asked. known ≡ [])
-  pub first : search_options.samples ≡ None → IsKnown search_options.max_texts known found.original
-  pub others : search_options.samples ≡ None → All (λ race. IsKnown search_options.max_texts known race.exchanged) found.races.items
+  pub races : AreRacesKnown search_options.max_texts found known

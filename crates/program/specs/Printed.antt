@@ -41,7 +41,7 @@ use Rattle.program.specs.declared.racing.NamedRaces.{NamedRaces}
 use Rattle.program.specs.declared.racing.ToldRaces.{ToldRaces}
 use Rattle.program.specs.declared.finding.SearchFinding.{SearchFinding}
 use Rattle.program.specs.declared.finding.SearchFinding.TheVariants as finding
-use Rattle.program.specs.Findings.{AreFound, AreKnown, AreRaces, HaveSomeEnds, finding_of, first_text, journals_of, limits_in, until_line}
+use Rattle.program.specs.Findings.{AreFound, AreKnown, AreRaces, AreRacesKnown, HaveSomeEnds, finding_of, first_text, have_stops, journals_of, limits_in, stops_from, until_line}
 use Rattle.program.specs.declared.fault.CommandFault.{CommandFault}
 use Rattle.program.specs.declared.fault.Stop.{Stop}
 use Rattle.program.specs.declared.running.LeftByRun.{LeftByRun}
@@ -160,20 +160,22 @@ pub record IsToldMore (source : List ℕ) (design : Compiled) (search_options : 
   pub answered : 1 < length shown → HasAnswer races.found causes
   pub tells : TellsMore source design shown prefix races.bounds races.found (length races.causes.causes.items) causes more
 
--- What is said of texts behind a search whose first run has this end: what they are, and whether their ends tell them apart too; and which option ends a run, where that one didn't end.
+-- What is said of texts behind a search whose first run has this end: what they are, whether their ends tell them apart too, and whose runs stop short; and which option ends a run, where
+-- that one didn't end.
 pub record IsToldLast (search_options : SearchOptions) (prefix : Option (List ℕ)) (end : End) (claim : Claim) (shown : List (Shown Entry End)) (last : List ℕ) : Type 0 where
   pub ends : Bool
   pub apart : HaveSomeEnds shown ends
-  pub text_is : last ≡ verdict_text claim search_options.until (length shown) ends (first_text shown) prefix ++ until_line search_options.until claim end
+  pub text_is : last ≡ verdict_text claim search_options.until (length shown) ends (first_text shown) (stops_from 1 shown) prefix ++ until_line search_options.until claim end
 
--- What is said of a search, after these races were told and these texts were known: texts were found, with those that were known before all others, and further races and
--- this are told of them.
+-- What is said of a search, after these races were told and these texts were known: texts were found, with those that were known before all others, those of the runs of these
+-- races are among them, unless as many as may be are, and further races and this are told of them.
 pub record HasFound (source : List ℕ) (design : Compiled) (search_options : SearchOptions) (prefix : Option (List ℕ)) (early : ToldRaces) (last : List ℕ) : Type 0 where
   pub claim : Claim
   pub shown : List (Shown Entry End)
   pub endless : Option (List Entry)
   pub are_found : AreFound design search_options claim shown endless
   pub grown : Extends early.known.items shown
+  pub races_known : AreRacesKnown search_options.max_texts early.races.found shown
   pub more : List ℕ
   pub is_more : IsToldMore source design search_options prefix early.races shown more
   pub said : List ℕ
@@ -194,7 +196,7 @@ pub record HasShown (holding : Option (List ℕ → List ℕ)) (file : List ℕ)
   pub has_found : HasFound source design search_options prefix early last
   pub printed : Appends old new (first ++ last)
   pub saved : SavesAllWhereAsked files files' prefix (journals_of has_found.shown has_found.endless)
-  pub finding : found ≡ finding_of has_found.claim (length has_found.shown)
+  pub finding : found ≡ finding_of has_found.claim (length has_found.shown) (have_stops has_found.shown)
 
 -- The words ask for a search for races, and to compare runs by their lines, in order. Output and files are as a search of their FILE leaves them that goes as far as these
 -- words say and saves journals at paths that begin with the PREFIX of these words, if they give one, and this was found.

@@ -1,12 +1,12 @@
 //! What a search of lawful orders has come to, as the exit status tells it.
 
 ghost use Rattle.std.specs.Prelude.{◌≡◌};
-ghost use Rattle.program.specs.Findings.{few_of, finding_of, only_of, finding_of_stop};
+ghost use Rattle.program.specs.Findings.{every_of, few_of, finding_of, only_of, finding_of_stop, sampled_of};
 ghost use Rattle.program.specs.Program.{finding_status};
 
 use verdict::{Claim, SearchStop};
 
-/// What was found: one text and no other is possible, no or one text and others may be possible, no or one text and memory was refused
+/// What was found: one text and no other is possible, no or one text and others may be possible or its run stops short, no or one text and memory was refused
 /// to the search, or several texts.
 #[derive(Clone, Copy)]
 pub enum SearchFinding {
@@ -17,35 +17,55 @@ pub enum SearchFinding {
 }
 
 impl SearchFinding {
-    /// What so many texts are, of which this is claimed.
-    pub fn of(claim: Claim, count: usize) -> SearchFinding
-        ensures { result ≡ finding_of claim count }
+    /// What so many texts are, of which this is claimed, by whether the run of one of them stops short.
+    pub fn of(claim: Claim, count: usize, stops: bool) -> SearchFinding
+        ensures { result ≡ finding_of claim count stops }
     {
         if count > 1 {
             return SearchFinding::Several;
         }
-        SearchFinding::of_few(claim, count)
+        SearchFinding::of_few(claim, count, stops)
     }
 
     /// What no or one text is.
-    fn of_few(claim: Claim, count: usize) -> SearchFinding
-        ensures { result ≡ few_of claim count }
+    fn of_few(claim: Claim, count: usize, stops: bool) -> SearchFinding
+        ensures { result ≡ few_of claim count stops }
     {
         match claim {
-            Claim::Every { endless, .. } if count == 1 => SearchFinding::of_only(endless),
+            Claim::Every { endless, .. } if count == 1 => SearchFinding::of_only(endless, stops),
             Claim::Every { .. } => SearchFinding::Unfinished,
             Claim::SoFar(search_stop) => SearchFinding::of_stopped(search_stop),
-            Claim::Sampled(_) => SearchFinding::Unfinished,
+            Claim::Sampled(orders) => SearchFinding::of_sampled(orders.stop),
         }
     }
 
-    /// What one text is that is all that runs with an end print.
-    fn of_only(endless: Option<usize>) -> SearchFinding
-        ensures { result ≡ only_of endless }
+    /// What one text is that is all that is printed, by whether its run stops short.
+    fn of_only(endless: Option<usize>, stops: bool) -> SearchFinding
+        ensures { result ≡ only_of endless stops }
     {
         match endless {
             Some(_) => SearchFinding::Unfinished,
-            None => SearchFinding::One,
+            None => SearchFinding::of_every(stops),
+        }
+    }
+
+    /// What one text is that every lawful run prints, by whether that stops short.
+    fn of_every(stops: bool) -> SearchFinding
+        ensures { result ≡ every_of stops }
+    {
+        match stops {
+            true => SearchFinding::Unfinished,
+            false => SearchFinding::One,
+        }
+    }
+
+    /// What no or one text is where random orders were tried, by why no more were.
+    fn of_sampled(stop: Option<SearchStop>) -> SearchFinding
+        ensures { result ≡ sampled_of stop }
+    {
+        match stop {
+            Some(search_stop) => SearchFinding::of_stopped(search_stop),
+            None => SearchFinding::Unfinished,
         }
     }
 

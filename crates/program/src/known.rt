@@ -170,7 +170,7 @@ impl KnownTexts {
 }
 
 /// The texts that are known of a design before its orders are searched: those of the first run, of the second runs of its races, and
-/// of a few random orders, up to as many as may be shown. None where random orders are tried in place of the search.
+/// of a few random orders, unless such are tried in place of the search; up to as many as may be shown.
 pub fn known_texts<P: Progress>(
     alloc: Global,
     design: &Design,
@@ -182,10 +182,6 @@ pub fn known_texts<P: Progress>(
     requires races { (race_bounds : RaceBounds) × AreRaces design.now (limits_in search_options) race_bounds found.now }
     ensures { IfOk result (λ known. AreKnown design.now search_options found.now known.items) }
 {
-    match search_options.samples {
-        Some(_) => return Ok(Vec::new(alloc)),
-        None => {}
-    }
     let mut known = KnownTexts::new(alloc, search_options.max_texts as usize);
     known.add_run(alloc, &found.original)?;
     known.add_races(alloc, found.races.as_slice())?;
@@ -195,10 +191,10 @@ pub fn known_texts<P: Progress>(
     Ok(shown)
 }
 
-/// How many random orders are tried: none where the first run has no two entries whose order may matter, and else as many as the
-/// most entries allow where each takes as many as the first run.
-fn few_orders(found: &Found) -> u32 {
-    if found.tried == 0 {
+/// How many random orders are tried: none where such are tried in place of the search or the first run has no two entries whose order may
+/// matter, and else as many as the most entries allow where each takes as many as the first run.
+fn few_orders(search_options: SearchOptions, found: &Found) -> u32 {
+    if search_options.samples.is_some() || found.tried == 0 {
         return 0;
     }
     let entries = (found.original.journal.len() as u64).max(1);
@@ -222,7 +218,7 @@ fn random_orders<P: Progress>(
     };
     let seeds = Seeds {
         first: search_options.seed,
-        count: few_orders(found),
+        count: few_orders(search_options, found),
     };
     let bounds = SampleBounds {
         kept: FEW_ORDERS as usize,

@@ -28,6 +28,7 @@ mod replaying;
 mod running;
 mod sampling;
 mod searching;
+mod stops;
 mod texts;
 mod waving;
 

@@ -21,6 +21,7 @@ use crate::fault::CommandFault;
 use crate::finding::SearchFinding;
 use crate::known::KnownTexts;
 use crate::searching::{bounds_of, claim_of, endless_of, first_of, number_of, stop_of, tell_texts};
+use crate::stops::stops_of;
 use crate::texts::FoundTexts;
 use arguments::{Observed, RacesRequest, SearchOptions};
 use design::{Design, RegId};
@@ -275,12 +276,14 @@ fn wave_lines<'a>(
         prefix,
     };
     let shown = waves.shown.as_slice();
+    let stops = stops_of(alloc, shown)?;
     let verdict = WaveVerdict {
         claim: waves.claim,
         until: search_options.until,
         count: shown.len(),
         registers: registers.len(),
         lines: printed_lines(registers.len(), first_of(shown)),
+        stops: stops.as_slice(),
         prefix,
     };
     let mut said = Vec::new(alloc);

@@ -1,13 +1,13 @@
 //! `races FILE`: the file is read, and races are looked for and told. Then the lawful orders are searched, which may take long, or random
 //! ones tried. Races that part the texts which that found, and what is said of the texts, are told, and then the journals are written.
 
-ghost use Rattle.std.specs.Prelude.{◌≡◌, ◌≤◌, ◌⊎◌, ◌∷◌, ◌++◌, IfErr, IfOk, IfSome, List, None, OnOk, Option, [], ◌+◌, ◌*◌, length, option_map, ℕ};
+ghost use Rattle.std.specs.Prelude.{◌≡◌, ◌≤◌, ◌⊎◌, ◌∷◌, ◌++◌, IfErr, IfOk, List, None, OnOk, Option, [], ◌+◌, ◌*◌, length, option_map, ℕ};
 ghost use Rattle.std.specs.Io.KnownBytes.{Appends, Keeps};
 ghost use Rattle.sharing.specs.Parts.{Extends};
 ghost use Rattle.explore.specs.Search.{AreDistinct};
 ghost use Rattle.std.specs.List.{All, AllPairs};
 ghost use Rattle.frontend.specs.Sources.{IsDesignOf};
-ghost use Rattle.program.specs.Findings.{AreFound, HaveSomeEnds, IsLawfulShown, claim_of, finding_of, first_text, has_most, is_cut, is_limit, journals_of, limits_in, met_limit, or_full, search_stop_of, unless_stopped, until_line, wants_until};
+ghost use Rattle.program.specs.Findings.{AreFound, HaveSomeEnds, IsLawfulShown, claim_of, finding_of, first_text, has_most, have_stops, is_cut, is_limit, journals_of, limits_in, met_limit, or_full, search_stop_of, unless_stopped, until_line, wants_until};
 ghost use Rattle.arguments.specs.Options.{CanSearch};
 ghost use Rattle.program.specs.Program.{status_of};
 ghost use Rattle.program.specs.Printed.{HasLeft, HasShown, IsToldLast};
@@ -18,6 +18,7 @@ use crate::finding::SearchFinding;
 use crate::known::KnownTexts;
 use crate::racing::{ToldRaces, more_lines, tell_races};
 use crate::sampling::sampled;
+use crate::stops::{have_stops, stops_of};
 use crate::texts::FoundTexts;
 use arguments::{RacesRequest, SearchOptions};
 use design::Design;
@@ -110,7 +111,7 @@ pub(crate) fn tell_texts<F: Files, O: Write>(
 ) -> Result<SearchFinding, CommandFault<'static>>
     ensures told { OnOk result (Appends (O.contents out.old) (O.contents out.new) last.now) }
     ensures saved { OnOk result (SavesAllWhereAsked (F.made files.old) (F.made files.new) (option_map (λ path. path.now) request.now.journals) (journals_of texts.shown.items (option_map (λ journal. journal.items) texts.endless))) }
-    ensures finding { IfOk result (λ found. found ≡ finding_of texts.claim (length texts.shown.items)) }
+    ensures finding { IfOk result (λ found. found ≡ finding_of texts.claim (length texts.shown.items) (have_stops texts.shown.items)) }
     ensures fault { IfErr result (λ fault. (status_of fault ≡ 1) ⊎ (status_of fault ≡ 6)) }
     ensures wanting { IfErr result (λ fault. status_of fault ≡ 6 → (Keeps (O.contents out.old) (O.contents out.new) × KeepsFiles (F.made files.old) (F.made files.new))
         ⊎ (Appends (O.contents out.old) (O.contents out.new) last.now
@@ -121,7 +122,8 @@ pub(crate) fn tell_texts<F: Files, O: Write>(
         shown,
         endless,
     } = texts;
-    let found = SearchFinding::of(claim, shown.len());
+    let stops = have_stops(shown.as_slice());
+    let found = SearchFinding::of(claim, shown.len(), stops);
     let journals = with_endless(alloc, shown, endless)?;
     let all = journals.as_slice();
     let (file, prefix) = (request.file, request.journals);
@@ -179,12 +181,11 @@ fn find_texts<P: Progress>(
     requires lawful { All (IsLawfulShown design.now (limits_in search_options)) known.items }
     requires distinct { AllPairs AreDistinct known.items }
     requires few { length known.items ≤ search_options.max_texts }
-    requires none { IfSome search_options.samples (λ asked. known.items ≡ []) }
     ensures found { IfOk result (λ texts. AreFound design.now search_options texts.claim texts.shown.items (option_map (λ journal. journal.items) texts.endless)) }
     ensures grown { IfOk result (λ texts. Extends known.items texts.shown.items) }
 {
     match search_options.samples {
-        Some(count) => return sampled(alloc, design, search_options, count, progress),
+        Some(count) => return sampled(alloc, design, search_options, count, known, progress),
         None => {}
     }
     let limits = Limits {
@@ -394,12 +395,14 @@ fn last_lines<'a>(
     ensures { IfOk result (λ last. IsToldLast search_options (option_map (λ path. path.now) prefix.entry) end texts.entry.now.claim texts.entry.now.shown.items last.items) }
 {
     let shown = texts.shown.as_slice();
+    let stops = stops_of(alloc, shown)?;
     let verdict = Verdict {
         claim: texts.claim,
         until: search_options.until,
         count: shown.len(),
         ends: ends_differ(shown),
         first: first_of(shown),
+        stops: stops.as_slice(),
         prefix,
     };
     let mut last = Vec::new(alloc);

@@ -1,11 +1,12 @@
 //! Runs of several seeds, and the texts and ends that they gave.
-ghost use Rattle.std.specs.Prelude.{◌≡◌, ◌+◌, ◌≤◌, ◌⊎◌, ◌<◌, false, length, IsTrue, IfSome, IfNone, OnOk, OnErr, slice_index_or, vec_len, vec_capacity};
+ghost use Rattle.std.specs.Prelude.{◌≡◌, ◌+◌, ◌≤◌, ◌⊎◌, ◌<◌, false, length, IsTrue, IfSome, IfNone, Some, OnOk, OnErr, slice_index_or, vec_len, vec_capacity};
 ghost use Rattle.std.specs.List.{All, AllPairs, Contains};
 ghost use Rattle.model.specs.Runs.{last_time};
 ghost use Rattle.runs.specs.RunRecords.{IsRun};
 ghost use Rattle.seeded.specs.Seeds.{AreSampled};
 ghost use Rattle.runs.specs.declared.run.RunRecord.{RunRecord};
 ghost use Rattle.runs.specs.Compared.{AreDifferentRuns, AreLike, IsWhole, WantsNoMemory};
+ghost use Rattle.seeded.specs.declared.samples.SampleStop.TheVariants.{Kept};
 ghost use Rattle.seeded.specs.Samples.{AreStillIn, GivesWay, IsRepresented};
 
 use crate::run::run_seeded;
@@ -30,11 +31,35 @@ pub struct SampleBounds {
     pub entries: u64,
 }
 
-/// The runs of several seeds that are apart, and how many runs were made.
+/// Why fewer runs are made than there are seeds: as many are kept as may be, all have as many entries as they may have together, or memory
+/// was refused.
+#[derive(Clone, Copy, PartialEq, Eq, Debug)]
+pub enum SampleStop {
+    Kept,
+    Entries,
+    Memory,
+}
+
+/// The runs of several seeds that are apart, how many runs were made, and why no more were, where fewer were than there are seeds.
 #[derive(Drop)]
 pub struct Samples {
     pub kept: Vec<RunRecord>,
     pub made: u32,
+    pub stop: Option<SampleStop>,
+}
+
+/// Why no further run is made where so many are kept and have so many entries, if one isn't.
+fn stop_at(kept: usize, entries: u64, bounds: SampleBounds) -> Option<SampleStop>
+    ensures kept { result ≡ Some Kept → bounds.kept ≤ kept }
+    ensures goes_on { IfNone result (kept < bounds.kept) }
+{
+    if kept >= bounds.kept {
+        return Some(SampleStop::Kept);
+    }
+    if entries >= bounds.entries {
+        return Some(SampleStop::Entries);
+    }
+    None
 }
 
 // Whether a kept run stands for another one: the two are the same, or the other one was cut off and isn't apart from it.
@@ -48,8 +73,8 @@ fn stands_for(one: &RunRecord, run: &RunRecord) -> bool
     !are_apart(one, run)
 }
 
-// Whether a kept run stands for this one.
-fn is_told(kept: &[RunRecord], run: &RunRecord) -> bool
+/// Whether a kept run stands for this one.
+pub fn is_told(kept: &[RunRecord], run: &RunRecord) -> bool
     ensures like { IsTrue result → IsRepresented kept.now run.now }
     ensures other { result ≡ false → All (λ one. AreDifferentRuns one run.now ⊎ GivesWay one run.now) kept.now }
 {
@@ -92,9 +117,9 @@ fn give_way(kept: &mut Vec<RunRecord>, run: &RunRecord)
     }
 }
 
-// Keeps a run unless a kept one stands for it. Those that were cut off give way to it where they aren't apart from it. Fails
-// where memory is refused, and then those that were kept stay.
-fn keep(kept: &mut Vec<RunRecord>, run: RunRecord) -> Result<(), AllocError>
+/// Keeps a run unless a kept one stands for it. Those that were cut off give way to it where they aren't apart from it. Fails
+/// where memory is refused, and then those that were kept stay.
+pub fn keep(kept: &mut Vec<RunRecord>, run: RunRecord) -> Result<(), AllocError>
     requires apart { AllPairs AreDifferentRuns kept.old.items }
     ensures apart { AllPairs AreDifferentRuns kept.new.items }
     ensures from { All (λ one. Contains kept.old.items one ⊎ (one ≡ run)) kept.new.items }
@@ -134,6 +159,8 @@ pub fn sample<P: Progress>(
     ensures kept { vec_len result.kept ≤ result.made }
     ensures made { result.made ≤ seeds.count }
     ensures sampled { AreSampled design.now limits seeds.first result.made result.kept.items }
+    ensures all { IfNone result.stop (result.made ≡ seeds.count) }
+    ensures full { result.stop ≡ Some Kept → vec_len result.kept ≡ bounds.kept }
 {
     let mut kept = Vec::new(alloc);
     let mut entries: u64 = 0;
@@ -141,22 +168,36 @@ pub fn sample<P: Progress>(
         progress.tell(HowFar::Runs {
             made: u64::from(made),
         });
-        if kept.len() >= bounds.kept || entries >= bounds.entries {
-            return Samples { kept, made };
+        match stop_at(kept.len(), entries, bounds) {
+            Some(stop) => return Samples {
+                kept,
+                made,
+                stop: Some(stop),
+            },
+            None => {}
         }
         let seed = seeds.first.wrapping_add(u64::from(made));
         let run = run_seeded(alloc, design, limits, seed, &Untold);
         if wants_memory(&run) {
-            return Samples { kept, made };
+            return Samples {
+                kept,
+                made,
+                stop: Some(SampleStop::Memory),
+            };
         }
         entries = entries.saturating_add(run.journal.len() as u64);
         match keep(&mut kept, run) {
             Ok(()) => {}
-            Err(_) => return Samples { kept, made },
+            Err(_) => return Samples {
+                kept,
+                made,
+                stop: Some(SampleStop::Memory),
+            },
         }
     }
     Samples {
         kept,
         made: seeds.count,
+        stop: None,
     }
 }

@@ -5,3 +5,4 @@ pub mod Verdicts
 pub mod CutLines
 pub mod WaveLines
 pub mod UnseenLines
+pub mod StopLines

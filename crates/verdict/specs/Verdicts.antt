@@ -2,6 +2,9 @@
 use Rattle.std.specs.Prelude.{ℕ, ◌+◌, ◌/◌, ◌%◌, ◌==◌, Bool, true, false, nat_lt, if◌then◌else◌, List, [], ◌∷◌, ◌++◌, Option, Some, None, codes, count_by, decimal}
 use Rattle.model.specs.Journal.{newline}
 use Rattle.verdict.specs.RaceLines.{saved_journal_text}
+use Rattle.verdict.specs.StopLines.{has_stops, stops_text}
+use Rattle.verdict.specs.declared.stops.StopDescription.{StopDescription}
+use Rattle.verdict.specs.declared.claim.SampledOrders.{SampledOrders}
 use Rattle.verdict.specs.declared.claim.Claim.{Claim}
 use Rattle.verdict.specs.declared.claim.Claim.TheVariants.{Every, SoFar, Sampled}
 use Rattle.verdict.specs.declared.claim.SearchStop.{SearchStop}
@@ -78,9 +81,26 @@ open_text count = if nat_lt 1 count then codes " or more: " else codes " so far:
 abbrev pub so_far_text : SearchStop → ℕ → List ℕ
 so_far_text stop count = open_text count ++ stop_text stop
 
--- that random orders were tried
-abbrev pub sampled_text : ℕ → List ℕ
-sampled_text orders = codes " in " ++ decimal orders ++ codes " random lawful orders: others may be possible\n"
+-- so many random orders, with a word for one
+abbrev pub random_orders_text : ℕ → List ℕ
+random_orders_text count = decimal count ++ (if count == 1 then codes " random lawful order" else codes " random lawful orders")
+
+-- that so many random orders were tried of so many that were asked for, and why no more were
+abbrev pub fewer_text : ℕ → ℕ → SearchStop → List ℕ
+fewer_text made asked stop = codes " in " ++ decimal made ++ codes " of " ++ random_orders_text asked ++ codes " and the runs for races: " ++ stop_text stop
+
+-- that all random orders were tried that were asked for
+abbrev pub asked_text : ℕ → List ℕ
+asked_text made = codes " in " ++ random_orders_text made ++ codes " and the runs for races: others may be possible\n"
+
+-- that random orders were tried, and why no more were, where fewer were than asked for
+abbrev pub sampled_by : ℕ → ℕ → Option SearchStop → List ℕ
+sampled_by made asked (Some stop) = fewer_text made asked stop
+sampled_by made asked None = asked_text made
+
+-- so it is of these
+abbrev pub sampled_text : SampledOrders → List ℕ
+sampled_text orders = sampled_by orders.made orders.asked orders.stop
 
 -- that no lawful run comes to an end, with the journal of one, where one is known
 abbrev pub none_every : Option ℕ → Option ℕ → Option (List ℕ) → List ℕ
@@ -95,33 +115,49 @@ abbrev pub endless_text : Option ℕ → Option (List ℕ) → List ℕ
 endless_text (Some number) prefix = some_endless (Some number) prefix
 endless_text None prefix = []
 
--- that every lawful run with an end prints this text
-abbrev pub one_every : ℕ → Option ℕ → List ℕ → Option ℕ → Option (List ℕ) → List ℕ
-one_every states until only endless prefix =
-    codes ": every lawful run" ++ up_to until ++ codes " that comes to an end prints " ++ these_lines (lines_in only) ++ states_text states
-    ++ endless_text endless prefix ++ only
+-- that all lawful runs are spoken of, or that none comes to an end, where some stop short
+abbrev pub every_or_none : Bool → List ℕ
+every_or_none false = codes ": every lawful run"
+every_or_none true = codes ": no lawful run"
 
--- that a run prints one of the texts, or has one of the texts with its end
+-- that a run with an end prints what follows, or that those which stop short do
+abbrev pub run_prints : Bool → List ℕ
+run_prints false = codes " that comes to an end prints "
+run_prints true = codes " comes to an end, and every one that stops short prints "
+
+-- that every lawful run with an end prints this text, or that none has an end, and each that stops short prints it
+abbrev pub one_every : ℕ → Option ℕ → List ℕ → List StopDescription → Option ℕ → Option (List ℕ) → List ℕ
+one_every states until only stops endless prefix =
+    every_or_none (has_stops stops) ++ up_to until ++ run_prints (has_stops stops) ++ these_lines (lines_in only) ++ states_text states
+    ++ stops_text (codes "text ") prefix stops ++ endless_text endless prefix ++ only
+
+-- that a run with an end does so, or one that stops short, where some do
+abbrev pub run_that_ends : Bool → List ℕ
+run_that_ends false = codes " that comes to an end"
+run_that_ends true = codes " that comes to an end or stops short"
+
+-- that it prints one of the texts, or has one of the texts with its end
 abbrev pub one_of_them : Bool → List ℕ
-one_of_them true = codes " that comes to an end has one of them\n"
-one_of_them false = codes " that comes to an end prints one of them\n"
+one_of_them true = codes " has one of them\n"
+one_of_them false = codes " prints one of them\n"
 
--- that every lawful run with an end does so
-abbrev pub many_every : Option ℕ → Bool → Option ℕ → Option (List ℕ) → List ℕ
-many_every until ends endless prefix = codes ": every lawful run" ++ up_to until ++ one_of_them ends ++ endless_text endless prefix
+-- that every lawful run with an end does so, of texts or of waves, as this word says
+abbrev pub many_every : Option ℕ → Bool → List ℕ → List StopDescription → Option ℕ → Option (List ℕ) → List ℕ
+many_every until ends word stops endless prefix =
+    codes ": every lawful run" ++ up_to until ++ run_that_ends (has_stops stops) ++ one_of_them ends ++ stops_text word prefix stops ++ endless_text endless prefix
 
 -- what is said of every lawful run
-abbrev pub every_text : ℕ → Option ℕ → Option ℕ → ℕ → Bool → List ℕ → Option (List ℕ) → List ℕ
-every_text states endless until count ends first prefix =
-    if count == 0 then none_every until endless prefix else if count == 1 then one_every states until first endless prefix
-    else many_every until ends endless prefix
+abbrev pub every_text : ℕ → Option ℕ → Option ℕ → ℕ → Bool → List ℕ → List StopDescription → Option (List ℕ) → List ℕ
+every_text states endless until count ends first stops prefix =
+    if count == 0 then none_every until endless prefix else if count == 1 then one_every states until first stops endless prefix
+    else many_every until ends (codes "text ") stops endless prefix
 
--- what the texts are among those of all lawful runs
-abbrev pub claim_text : Claim → Option ℕ → ℕ → Bool → List ℕ → Option (List ℕ) → List ℕ
-claim_text (Every states endless) until count ends first prefix = every_text states endless until count ends first prefix
-claim_text (SoFar stop) until count ends first prefix = so_far_text stop count
-claim_text (Sampled orders) until count ends first prefix = sampled_text orders
+-- what the texts are among those of all lawful runs, and whose runs stop short
+abbrev pub claim_text : Claim → Option ℕ → ℕ → Bool → List ℕ → List StopDescription → Option (List ℕ) → List ℕ
+claim_text (Every states endless) until count ends first stops prefix = every_text states endless until count ends first stops prefix
+claim_text (SoFar stop) until count ends first stops prefix = so_far_text stop count ++ stops_text (codes "text ") prefix stops
+claim_text (Sampled orders) until count ends first stops prefix = sampled_text orders ++ stops_text (codes "text ") prefix stops
 
--- what is said of the texts: how many there are, and what they are among those of all lawful runs
-abbrev pub verdict_text : Claim → Option ℕ → ℕ → Bool → List ℕ → Option (List ℕ) → List ℕ
-verdict_text claim until count ends first prefix = text_count_text count ends ++ claim_text claim until count ends first prefix
+-- what is said of the texts: how many there are, what they are among those of all lawful runs, and whose runs stop short
+abbrev pub verdict_text : Claim → Option ℕ → ℕ → Bool → List ℕ → List StopDescription → Option (List ℕ) → List ℕ
+verdict_text claim until count ends first stops prefix = text_count_text count ends ++ claim_text claim until count ends first stops prefix

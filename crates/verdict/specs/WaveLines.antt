@@ -1,7 +1,9 @@
 -- What is said of waves: of what two runs have in common where more or less than their lines, in order, is compared.
-use Rattle.std.specs.Prelude.{ℕ, ◌==◌, true, if◌then◌else◌, List, [], ◌++◌, Option, Some, None, option_map, codes, decimal}
+use Rattle.std.specs.Prelude.{ℕ, ◌==◌, Bool, true, false, if◌then◌else◌, List, [], ◌++◌, Option, Some, None, option_map, codes, decimal}
 use Rattle.verdict.specs.RaceLines.{quoted_line, saved_journal_text}
 use Rattle.verdict.specs.Verdicts.{endless_text, many_every, none_every, number_between, sampled_text, so_far_text, states_text, up_to}
+use Rattle.verdict.specs.StopLines.{has_stops, stops_text}
+use Rattle.verdict.specs.declared.stops.StopDescription.{StopDescription}
 use Rattle.verdict.specs.declared.claim.Claim.{Claim}
 use Rattle.verdict.specs.declared.claim.Claim.TheVariants.{Every, SoFar, Sampled}
 use Rattle.verdict.specs.declared.waves.WaveDescription.{WaveDescription}
@@ -67,24 +69,34 @@ same_values_text registers lines = these_registers registers ++ codes " (and " +
 abbrev pub same_text : ℕ → ℕ → List ℕ
 same_text registers lines = if registers == 0 then at_times_text lines else same_values_text registers lines
 
--- that every lawful run with an end has the same wave
-abbrev pub one_wave : ℕ → Option ℕ → ℕ → ℕ → Option ℕ → Option (List ℕ) → List ℕ
-one_wave states until registers lines endless prefix =
-    codes ": in every lawful run" ++ up_to until ++ codes " that comes to an end " ++ same_text registers lines ++ states_text states
-    ++ endless_text endless prefix
+-- that all lawful runs are spoken of, or that none comes to an end, where some stop short
+abbrev pub in_every_or_none : Bool → List ℕ
+in_every_or_none false = codes ": in every lawful run"
+in_every_or_none true = codes ": no lawful run"
+
+-- that what follows is so in those with an end, or in those that stop short
+abbrev pub run_has : Bool → List ℕ
+run_has false = codes " that comes to an end "
+run_has true = codes " comes to an end, and in every one that stops short "
+
+-- that every lawful run with an end has the same wave, or that none has an end, and each that stops short has it
+abbrev pub one_wave : ℕ → Option ℕ → ℕ → ℕ → List StopDescription → Option ℕ → Option (List ℕ) → List ℕ
+one_wave states until registers lines stops endless prefix =
+    in_every_or_none (has_stops stops) ++ up_to until ++ run_has (has_stops stops) ++ same_text registers lines ++ states_text states
+    ++ stops_text (codes "wave ") prefix stops ++ endless_text endless prefix
 
 -- what is said of every lawful run
-abbrev pub every_wave_text : ℕ → Option ℕ → Option ℕ → ℕ → ℕ → ℕ → Option (List ℕ) → List ℕ
-every_wave_text states endless until count registers lines prefix =
-    if count == 0 then none_every until endless prefix else if count == 1 then one_wave states until registers lines endless prefix
-    else many_every until true endless prefix
+abbrev pub every_wave_text : ℕ → Option ℕ → Option ℕ → ℕ → ℕ → ℕ → List StopDescription → Option (List ℕ) → List ℕ
+every_wave_text states endless until count registers lines stops prefix =
+    if count == 0 then none_every until endless prefix else if count == 1 then one_wave states until registers lines stops endless prefix
+    else many_every until true (codes "wave ") stops endless prefix
 
--- what the waves are among those of all lawful runs
-abbrev pub wave_claim_text : Claim → Option ℕ → ℕ → ℕ → ℕ → Option (List ℕ) → List ℕ
-wave_claim_text (Every states endless) until count registers lines prefix = every_wave_text states endless until count registers lines prefix
-wave_claim_text (SoFar stop) until count registers lines prefix = so_far_text stop count
-wave_claim_text (Sampled orders) until count registers lines prefix = sampled_text orders
+-- what the waves are among those of all lawful runs, and whose runs stop short
+abbrev pub wave_claim_text : Claim → Option ℕ → ℕ → ℕ → ℕ → List StopDescription → Option (List ℕ) → List ℕ
+wave_claim_text (Every states endless) until count registers lines stops prefix = every_wave_text states endless until count registers lines stops prefix
+wave_claim_text (SoFar stop) until count registers lines stops prefix = so_far_text stop count ++ stops_text (codes "wave ") prefix stops
+wave_claim_text (Sampled orders) until count registers lines stops prefix = sampled_text orders ++ stops_text (codes "wave ") prefix stops
 
--- what is said of the waves: how many there are, and what they are among those of all lawful runs
-abbrev pub wave_verdict_text : Claim → Option ℕ → ℕ → ℕ → ℕ → Option (List ℕ) → List ℕ
-wave_verdict_text claim until count registers lines prefix = wave_count_text count ++ wave_claim_text claim until count registers lines prefix
+-- what is said of the waves: how many there are, what they are among those of all lawful runs, and whose runs stop short
+abbrev pub wave_verdict_text : Claim → Option ℕ → ℕ → ℕ → ℕ → List StopDescription → Option (List ℕ) → List ℕ
+wave_verdict_text claim until count registers lines stops prefix = wave_count_text count ++ wave_claim_text claim until count registers lines stops prefix

@@ -15,6 +15,14 @@ pub enum SearchStop {
     Memory,
 }
 
+/// Random orders: how many were tried of so many that were asked for, and why no more were tried, where fewer were.
+#[derive(Clone, Copy, PartialEq, Eq, Debug)]
+pub struct SampledOrders {
+    pub made: u32,
+    pub asked: u32,
+    pub stop: Option<SearchStop>,
+}
+
 /// What the texts that were found are among those of all lawful runs.
 #[derive(Clone, Copy, PartialEq, Eq, Debug)]
 pub enum Claim {
@@ -27,6 +35,6 @@ pub enum Claim {
     },
     /// There may be others, since the search stopped.
     SoFar(SearchStop),
-    /// There may be others, since this many random orders were tried.
-    Sampled(u32),
+    /// There may be others, since random orders were tried.
+    Sampled(SampledOrders),
 }

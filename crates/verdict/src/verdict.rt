@@ -1,13 +1,15 @@
 //! The lines on the texts that were found.
 
-ghost use Rattle.std.specs.Prelude.{◌≡◌, ◌++◌, OnOk, option_map};
-ghost use Rattle.verdict.specs.Verdicts.{claim_text, endless_text, many_every, none_every, one_of_them, one_every, open_text, sampled_text, so_far_text, verdict_text};
+ghost use Rattle.std.specs.Prelude.{◌≡◌, ◌++◌, OnOk, codes, option_map};
+ghost use Rattle.verdict.specs.StopLines.{stops_text};
+ghost use Rattle.verdict.specs.Verdicts.{asked_text, claim_text, endless_text, every_or_none, fewer_text, many_every, none_every, one_of_them, one_every, open_text, random_orders_text, run_prints, run_that_ends, sampled_text, so_far_text, verdict_text};
 
-use crate::claim::{Claim, SearchStop};
+use crate::claim::{Claim, SampledOrders, SearchStop};
 use crate::phrases::{
     push_count, push_number, push_states, push_stop, push_these_lines, push_up_to,
 };
 use crate::race::push_journal;
+use crate::stops::{StopDescription, has_stops, push_stops};
 use std::alloc::AllocError;
 
 /// The texts that were found, and what they are among those of all lawful runs.
@@ -22,13 +24,15 @@ pub struct Verdict<'a> {
     pub ends: bool,
     /// The first text, if there is one.
     pub first: &'a [u8],
+    /// Those of the texts whose runs stop short.
+    pub stops: &'a [StopDescription],
     /// The path that journals begin with, where they are saved.
     pub prefix: Option<&'a str>,
 }
 
 /// Puts the verdict behind a text. Where there is one text and no other is possible, that text is the end of it.
 pub fn push_verdict(text: &mut Vec<u8>, verdict: &Verdict<'_>) -> Result<(), AllocError>
-    ensures { OnOk result (text.new.items ≡ text.old.items ++ verdict_text verdict.entry.now.claim verdict.entry.now.until verdict.entry.now.count verdict.entry.now.ends verdict.entry.now.first.now (option_map (λ path. path.now) verdict.entry.now.prefix)) }
+    ensures { OnOk result (text.new.items ≡ text.old.items ++ verdict_text verdict.entry.now.claim verdict.entry.now.until verdict.entry.now.count verdict.entry.now.ends verdict.entry.now.first.now verdict.entry.now.stops.now (option_map (λ path. path.now) verdict.entry.now.prefix)) }
 {
     push_count(text, verdict.count, verdict.ends)?;
     push_claim(text, verdict)
@@ -36,17 +40,41 @@ pub fn push_verdict(text: &mut Vec<u8>, verdict: &Verdict<'_>) -> Result<(), All
 
 /// What the texts are among those of all lawful runs, behind their number.
 fn push_claim(text: &mut Vec<u8>, verdict: &Verdict<'_>) -> Result<(), AllocError>
-    ensures { OnOk result (text.new.items ≡ text.old.items ++ claim_text verdict.entry.now.claim verdict.entry.now.until verdict.entry.now.count verdict.entry.now.ends verdict.entry.now.first.now (option_map (λ path. path.now) verdict.entry.now.prefix)) }
+    ensures { OnOk result (text.new.items ≡ text.old.items ++ claim_text verdict.entry.now.claim verdict.entry.now.until verdict.entry.now.count verdict.entry.now.ends verdict.entry.now.first.now verdict.entry.now.stops.now (option_map (λ path. path.now) verdict.entry.now.prefix)) }
 {
     match verdict.claim {
         Claim::Every { states, endless } => match verdict.count {
             0 => push_none(text, verdict.until, endless, verdict.prefix),
             1 => push_one(text, verdict, states, endless),
-            _ => push_many(text, verdict, endless),
+            _ => push_many(text, verdict, b"text ", endless),
         },
-        Claim::SoFar(stop) => push_so_far(text, stop, verdict.count),
-        Claim::Sampled(orders) => push_sampled(text, orders),
+        Claim::SoFar(stop) => push_stopped_search(text, verdict, stop),
+        Claim::Sampled(orders) => push_samples(text, verdict, orders),
     }
+}
+
+/// That there may be other texts, and why, and whose runs stop short.
+fn push_stopped_search(
+    text: &mut Vec<u8>,
+    verdict: &Verdict<'_>,
+    stop: SearchStop,
+) -> Result<(), AllocError>
+    ensures { OnOk result (text.new.items ≡ text.old.items ++ (so_far_text stop verdict.entry.now.count ++ stops_text (codes "text ") (option_map (λ path. path.now) verdict.entry.now.prefix) verdict.entry.now.stops.now)) }
+{
+    push_so_far(text, stop, verdict.count)?;
+    push_stops(text, b"text ", verdict.prefix, verdict.stops)
+}
+
+/// That the texts are those of random orders, and whose runs stop short.
+fn push_samples(
+    text: &mut Vec<u8>,
+    verdict: &Verdict<'_>,
+    orders: SampledOrders,
+) -> Result<(), AllocError>
+    ensures { OnOk result (text.new.items ≡ text.old.items ++ (sampled_text orders ++ stops_text (codes "text ") (option_map (λ path. path.now) verdict.entry.now.prefix) verdict.entry.now.stops.now)) }
+{
+    push_sampled(text, orders)?;
+    push_stops(text, b"text ", verdict.prefix, verdict.stops)
 }
 
 /// That there may be other texts, and why.
@@ -72,13 +100,46 @@ fn open_text(count: usize) -> &'static [u8]
     }
 }
 
-/// That the texts are those of so many random orders, and there may be others.
-pub(crate) fn push_sampled(text: &mut Vec<u8>, orders: u32) -> Result<(), AllocError>
+/// That the texts are those of random orders, and there may be others.
+pub(crate) fn push_sampled(text: &mut Vec<u8>, orders: SampledOrders) -> Result<(), AllocError>
     ensures { OnOk result (text.new.items ≡ text.old.items ++ sampled_text orders) }
 {
+    match orders.stop {
+        Some(stop) => push_fewer(text, orders.made, orders.asked, stop),
+        None => push_asked(text, orders.made),
+    }
+}
+
+/// That all random orders were tried that were asked for.
+fn push_asked(text: &mut Vec<u8>, made: u32) -> Result<(), AllocError>
+    ensures { OnOk result (text.new.items ≡ text.old.items ++ asked_text made) }
+{
     text.extend_from_slice(b" in ")?;
-    push_number(text, orders as u64)?;
-    text.extend_from_slice(b" random lawful orders: others may be possible\n")
+    push_orders(text, made)?;
+    text.extend_from_slice(b" and the runs for races: others may be possible\n")
+}
+
+/// That so many random orders were tried of so many that were asked for, and why no more were.
+fn push_fewer(text: &mut Vec<u8>, made: u32, asked: u32, stop: SearchStop) -> Result<(), AllocError>
+    ensures { OnOk result (text.new.items ≡ text.old.items ++ fewer_text made asked stop) }
+{
+    text.extend_from_slice(b" in ")?;
+    push_number(text, made as u64)?;
+    text.extend_from_slice(b" of ")?;
+    push_orders(text, asked)?;
+    text.extend_from_slice(b" and the runs for races: ")?;
+    push_stop(text, stop)
+}
+
+/// Puts so many random orders behind a text, with a word for one.
+fn push_orders(text: &mut Vec<u8>, count: u32) -> Result<(), AllocError>
+    ensures { OnOk result (text.new.items ≡ text.old.items ++ random_orders_text count) }
+{
+    push_number(text, count as u64)?;
+    match count {
+        1 => text.extend_from_slice(b" random lawful order"),
+        _ => text.extend_from_slice(b" random lawful orders"),
+    }
 }
 
 /// That no lawful run comes to an end, and where the journal of one that doesn't is saved, if it is.
@@ -115,36 +176,72 @@ pub(crate) fn push_endless(
     }
 }
 
-/// That every lawful run that comes to an end prints the same text, and that text behind all that is said.
+/// That every lawful run that comes to an end prints the same text, or that none does and each that stops short prints it, and that text behind all that is said.
 fn push_one(
     text: &mut Vec<u8>,
     verdict: &Verdict<'_>,
     states: u64,
     endless: Option<usize>,
 ) -> Result<(), AllocError>
-    ensures { OnOk result (text.new.items ≡ text.old.items ++ one_every states verdict.entry.now.until verdict.entry.now.first.now endless (option_map (λ path. path.now) verdict.entry.now.prefix)) }
+    ensures { OnOk result (text.new.items ≡ text.old.items ++ one_every states verdict.entry.now.until verdict.entry.now.first.now verdict.entry.now.stops.now endless (option_map (λ path. path.now) verdict.entry.now.prefix)) }
 {
-    text.extend_from_slice(b": every lawful run")?;
+    let some = has_stops(verdict.stops);
+    text.extend_from_slice(every_or_none(some))?;
     push_up_to(text, verdict.until)?;
-    text.extend_from_slice(b" that comes to an end prints ")?;
+    text.extend_from_slice(run_prints(some))?;
     push_these_lines(text, verdict.first)?;
     push_states(text, states)?;
+    push_stops(text, b"text ", verdict.prefix, verdict.stops)?;
     push_endless(text, endless, verdict.prefix)?;
     text.extend_from_slice(verdict.first)
 }
 
-/// That every lawful run that comes to an end has one of several texts.
+/// Of which runs one text is told: of every lawful run, or of none, where its run stops short.
+fn every_or_none(stops: bool) -> &'static [u8]
+    ensures { result.now ≡ every_or_none stops }
+{
+    match stops {
+        true => b": no lawful run",
+        false => b": every lawful run",
+    }
+}
+
+/// Which runs print the one text: those with an end, or those that stop short.
+fn run_prints(stops: bool) -> &'static [u8]
+    ensures { result.now ≡ run_prints stops }
+{
+    match stops {
+        true => b" comes to an end, and every one that stops short prints ",
+        false => b" that comes to an end prints ",
+    }
+}
+
+/// That every lawful run that comes to an end has one of several texts, or of several waves, as this word says.
 pub(crate) fn push_many(
     text: &mut Vec<u8>,
     verdict: &Verdict<'_>,
+    word: &[u8],
     endless: Option<usize>,
 ) -> Result<(), AllocError>
-    ensures { OnOk result (text.new.items ≡ text.old.items ++ many_every verdict.entry.now.until verdict.entry.now.ends endless (option_map (λ path. path.now) verdict.entry.now.prefix)) }
+    ensures { OnOk result (text.new.items ≡ text.old.items ++ many_every verdict.entry.now.until verdict.entry.now.ends word.now verdict.entry.now.stops.now endless (option_map (λ path. path.now) verdict.entry.now.prefix)) }
 {
+    let some = has_stops(verdict.stops);
     text.extend_from_slice(b": every lawful run")?;
     push_up_to(text, verdict.until)?;
+    text.extend_from_slice(run_that_ends(some))?;
     text.extend_from_slice(one_of_them(verdict.ends))?;
+    push_stops(text, word, verdict.prefix, verdict.stops)?;
     push_endless(text, endless, verdict.prefix)
+}
+
+/// Which runs have one of several texts: those with an end, and those that stop short, where some do.
+fn run_that_ends(stops: bool) -> &'static [u8]
+    ensures { result.now ≡ run_that_ends stops }
+{
+    match stops {
+        true => b" that comes to an end or stops short",
+        false => b" that comes to an end",
+    }
 }
 
 /// What a run has of several texts: it has one of them with its end, or it prints one of them, where their ends are alike.
@@ -152,7 +249,7 @@ fn one_of_them(ends: bool) -> &'static [u8]
     ensures { result.now ≡ one_of_them ends }
 {
     match ends {
-        true => b" that comes to an end has one of them\n",
-        false => b" that comes to an end prints one of them\n",
+        true => b" has one of them\n",
+        false => b" prints one of them\n",
     }
 }

@@ -1,12 +1,14 @@
 //! The lines on waves: what two runs have in common where more or less than their lines, in order, is compared.
 
 ghost use Rattle.std.specs.Prelude.{◌≡◌, ◌++◌, OnOk, codes, decimal, option_map, true};
-ghost use Rattle.verdict.specs.WaveLines.{at_times_text, one_wave, register_parting_text, same_lines_text, same_text, side_text, sides_of, sides_text, these_registers, same_values_text, wave_claim_text, wave_count_text, wave_site_text, wave_text, wave_verdict_text};
-ghost use Rattle.verdict.specs.Verdicts.{many_every};
+ghost use Rattle.verdict.specs.WaveLines.{at_times_text, one_wave, register_parting_text, same_lines_text, same_text, side_text, sides_of, sides_text, these_registers, same_values_text, in_every_or_none, run_has, wave_claim_text, wave_count_text, wave_site_text, wave_text, wave_verdict_text};
+ghost use Rattle.verdict.specs.StopLines.{stops_text};
+ghost use Rattle.verdict.specs.Verdicts.{many_every, sampled_text, so_far_text};
 
-use crate::claim::Claim;
+use crate::claim::{Claim, SampledOrders, SearchStop};
 use crate::phrases::{push_between, push_number, push_states, push_up_to};
 use crate::race::{push_journal, push_quoted};
+use crate::stops::{StopDescription, has_stops, push_stops};
 use crate::verdict::{Verdict, push_endless, push_many, push_none, push_sampled, push_so_far};
 use std::alloc::AllocError;
 
@@ -22,6 +24,8 @@ pub struct WaveVerdict<'a> {
     pub registers: usize,
     /// How many lines are printed in a run that has the first wave.
     pub lines: usize,
+    /// Those of the waves whose runs stop short.
+    pub stops: &'a [StopDescription],
     /// The path that journals begin with, where they are saved.
     pub prefix: Option<&'a str>,
 }
@@ -116,7 +120,7 @@ fn push_side(
 
 /// Puts what is said of waves behind a text.
 pub fn push_wave_verdict(text: &mut Vec<u8>, verdict: &WaveVerdict<'_>) -> Result<(), AllocError>
-    ensures { OnOk result (text.new.items ≡ text.old.items ++ wave_verdict_text verdict.entry.now.claim verdict.entry.now.until verdict.entry.now.count verdict.entry.now.registers verdict.entry.now.lines (option_map (λ path. path.now) verdict.entry.now.prefix)) }
+    ensures { OnOk result (text.new.items ≡ text.old.items ++ wave_verdict_text verdict.entry.now.claim verdict.entry.now.until verdict.entry.now.count verdict.entry.now.registers verdict.entry.now.lines verdict.entry.now.stops.now (option_map (λ path. path.now) verdict.entry.now.prefix)) }
 {
     push_wave_count(text, verdict.count)?;
     push_wave_claim(text, verdict)
@@ -143,7 +147,7 @@ fn push_waves(text: &mut Vec<u8>, count: usize) -> Result<(), AllocError>
 
 /// What the waves are among those of all lawful runs, behind their number.
 fn push_wave_claim(text: &mut Vec<u8>, verdict: &WaveVerdict<'_>) -> Result<(), AllocError>
-    ensures { OnOk result (text.new.items ≡ text.old.items ++ wave_claim_text verdict.entry.now.claim verdict.entry.now.until verdict.entry.now.count verdict.entry.now.registers verdict.entry.now.lines (option_map (λ path. path.now) verdict.entry.now.prefix)) }
+    ensures { OnOk result (text.new.items ≡ text.old.items ++ wave_claim_text verdict.entry.now.claim verdict.entry.now.until verdict.entry.now.count verdict.entry.now.registers verdict.entry.now.lines verdict.entry.now.stops.now (option_map (λ path. path.now) verdict.entry.now.prefix)) }
 {
     match verdict.claim {
         Claim::Every { states, endless } => match verdict.count {
@@ -151,9 +155,33 @@ fn push_wave_claim(text: &mut Vec<u8>, verdict: &WaveVerdict<'_>) -> Result<(), 
             1 => push_one_wave(text, verdict, states, endless),
             _ => push_many_waves(text, verdict, endless),
         },
-        Claim::SoFar(stop) => push_so_far(text, stop, verdict.count),
-        Claim::Sampled(orders) => push_sampled(text, orders),
+        Claim::SoFar(stop) => push_stopped_search(text, verdict, stop),
+        Claim::Sampled(orders) => push_samples(text, verdict, orders),
     }
+}
+
+/// That there may be other waves, and why, and whose runs stop short.
+fn push_stopped_search(
+    text: &mut Vec<u8>,
+    verdict: &WaveVerdict<'_>,
+    stop: SearchStop,
+) -> Result<(), AllocError>
+    ensures { OnOk result (text.new.items ≡ text.old.items ++ (so_far_text stop verdict.entry.now.count ++ stops_text (codes "wave ") (option_map (λ path. path.now) verdict.entry.now.prefix) verdict.entry.now.stops.now)) }
+{
+    push_so_far(text, stop, verdict.count)?;
+    push_stops(text, b"wave ", verdict.prefix, verdict.stops)
+}
+
+/// That the waves are those of random orders, and whose runs stop short.
+fn push_samples(
+    text: &mut Vec<u8>,
+    verdict: &WaveVerdict<'_>,
+    orders: SampledOrders,
+) -> Result<(), AllocError>
+    ensures { OnOk result (text.new.items ≡ text.old.items ++ (sampled_text orders ++ stops_text (codes "wave ") (option_map (λ path. path.now) verdict.entry.now.prefix) verdict.entry.now.stops.now)) }
+{
+    push_sampled(text, orders)?;
+    push_stops(text, b"wave ", verdict.prefix, verdict.stops)
 }
 
 /// That every lawful run that comes to an end has one of several waves.
@@ -162,7 +190,7 @@ fn push_many_waves(
     verdict: &WaveVerdict<'_>,
     endless: Option<usize>,
 ) -> Result<(), AllocError>
-    ensures { OnOk result (text.new.items ≡ text.old.items ++ many_every verdict.entry.now.until true endless (option_map (λ path. path.now) verdict.entry.now.prefix)) }
+    ensures { OnOk result (text.new.items ≡ text.old.items ++ many_every verdict.entry.now.until true (codes "wave ") verdict.entry.now.stops.now endless (option_map (λ path. path.now) verdict.entry.now.prefix)) }
 {
     let texts = Verdict {
         claim: verdict.claim,
@@ -170,26 +198,49 @@ fn push_many_waves(
         count: verdict.count,
         ends: true,
         first: &[],
+        stops: verdict.stops,
         prefix: verdict.prefix,
     };
-    push_many(text, &texts, endless)
+    push_many(text, &texts, b"wave ", endless)
 }
 
-/// That every lawful run that comes to an end has the same wave.
+/// That every lawful run that comes to an end has the same wave, or that none does and each that stops short has it.
 fn push_one_wave(
     text: &mut Vec<u8>,
     verdict: &WaveVerdict<'_>,
     states: u64,
     endless: Option<usize>,
 ) -> Result<(), AllocError>
-    ensures { OnOk result (text.new.items ≡ text.old.items ++ one_wave states verdict.entry.now.until verdict.entry.now.registers verdict.entry.now.lines endless (option_map (λ path. path.now) verdict.entry.now.prefix)) }
+    ensures { OnOk result (text.new.items ≡ text.old.items ++ one_wave states verdict.entry.now.until verdict.entry.now.registers verdict.entry.now.lines verdict.entry.now.stops.now endless (option_map (λ path. path.now) verdict.entry.now.prefix)) }
 {
-    text.extend_from_slice(b": in every lawful run")?;
+    let some = has_stops(verdict.stops);
+    text.extend_from_slice(in_every_or_none(some))?;
     push_up_to(text, verdict.until)?;
-    text.extend_from_slice(b" that comes to an end ")?;
+    text.extend_from_slice(run_has(some))?;
     push_same(text, verdict.registers, verdict.lines)?;
     push_states(text, states)?;
+    push_stops(text, b"wave ", verdict.prefix, verdict.stops)?;
     push_endless(text, endless, verdict.prefix)
+}
+
+/// Of which runs one wave is told: of every lawful run, or of none, where its run stops short.
+fn in_every_or_none(stops: bool) -> &'static [u8]
+    ensures { result.now ≡ in_every_or_none stops }
+{
+    match stops {
+        true => b": no lawful run",
+        false => b": in every lawful run",
+    }
+}
+
+/// Which runs have the one wave: those with an end, or those that stop short.
+fn run_has(stops: bool) -> &'static [u8]
+    ensures { result.now ≡ run_has stops }
+{
+    match stops {
+        true => b" comes to an end, and in every one that stops short ",
+        false => b" that comes to an end ",
+    }
 }
 
 /// What is the same in every run: the values of so many registers and so many lines, or the lines alone.

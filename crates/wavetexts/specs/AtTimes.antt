@@ -19,6 +19,11 @@ abbrev pub begins_sight : List ℕ → Bool
 begins_sight [] = false
 begins_sight (b ∷ bytes) = b == sight_mark
 
+-- nothing is printed in a line: it begins what is seen, or the text has ended
+abbrev pub prints_nothing : List ℕ → Bool
+prints_nothing [] = true
+prints_nothing (b ∷ bytes) = b == sight_mark
+
 -- a line is a printed one, where so many lines of what is seen are left
 abbrev pub is_printed : ℕ → List ℕ → Bool
 is_printed left line = (left == 0) && not (begins_sight line)

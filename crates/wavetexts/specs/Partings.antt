@@ -3,7 +3,7 @@ use Rattle.std.specs.Prelude.{◌≡◌, ◌⊎◌, ℕ, zero, suc, ◌-◌, Boo
 use Rattle.verdict.specs.declared.waves.WaveSite.{WaveSite}
 use Rattle.verdict.specs.declared.waves.WaveSite.TheVariants.{Register, Line, Time, End}
 use Rattle.verdict.specs.VerdictLines.{IsFirstDifference, HaveSameLines}
-use Rattle.wavetexts.specs.AtTimes.{begins_sight, left_after, lines_of}
+use Rattle.wavetexts.specs.AtTimes.{begins_sight, comes_before, left_after, lines_of, prints_nothing}
 use Rattle.wavetexts.specs.declared.parting.Parting.{Parting}
 
 -- the time in the line that begins what is seen: what stands between its mark and its newline
@@ -33,18 +33,20 @@ name_or_none names register = unwrap_or (slice_get names register) (codes "?")
 abbrev pub register_name : List (List ℕ) → List ℕ → ℕ → List ℕ
 register_name names registers left = unwrap_or (option_and_then (slice_get names) (slice_get registers (length registers - left))) (codes "?")
 
--- a printed line, and nothing where it begins what is seen instead
-abbrev pub printed_line : List ℕ → List ℕ
-printed_line line = if begins_sight line then [] else line
+-- A line that another text lacks where it has another one: nothing where nothing is printed in it, or where the other one is printed and comes before it. Where the lines of
+-- each time are in order, the one that comes first stands in its text once more than in the other.
+abbrev pub lacking_line : List ℕ → List ℕ → List ℕ
+lacking_line line other =
+    if prints_nothing line then [] else if prints_nothing other then line else if comes_before line other then line else []
 
--- of lines that differ both begin what is seen, and the times are told; or they don't, and the printed ones are
+-- in neither of two lines that differ is anything printed, and the times are told; or in one, and the line that one text lacks is told
 abbrev pub IsLinePartingBy : Bool → List ℕ → List ℕ → Parting → Type 0
 IsLinePartingBy true first second p = (p.site ≡ Time) × (p.first.now ≡ time_in first) × (p.second.now ≡ time_in second)
-IsLinePartingBy false first second p = (p.site ≡ Line) × (p.first.now ≡ printed_line first) × (p.second.now ≡ printed_line second)
+IsLinePartingBy false first second p = (p.site ≡ Line) × (p.first.now ≡ lacking_line first second) × (p.second.now ≡ lacking_line second first)
 
 -- in what texts part whose first lines that differ aren't those of registers
 abbrev pub IsLineParting : List ℕ → List ℕ → Parting → Type 0
-IsLineParting first second p = IsLinePartingBy (begins_sight first && begins_sight second) first second p
+IsLineParting first second p = IsLinePartingBy (prints_nothing first && prints_nothing second) first second p
 
 -- a register is told by its name and the time
 abbrev pub IsRegisterSite : List ℕ → List ℕ → WaveSite → Type 0

@@ -8,8 +8,8 @@ use crate::lines::split_line;
 use crate::sights::{is_printed, left_after};
 use std::alloc::{AllocError, Global};
 
-// Whether a line comes before another one, byte by byte.
-fn comes_before(one: &[u8], other: &[u8]) -> bool
+/// Whether a line comes before another one, byte by byte.
+pub(crate) fn comes_before(one: &[u8], other: &[u8]) -> bool
     ensures { result ≡ comes_before one.now other.now }
 {
     one.cmp(&other).is_lt()

@@ -2,10 +2,11 @@
 
 ghost use Rattle.std.specs.Prelude.{◌≡◌};
 ghost use Rattle.wavetexts.specs.AtTimes.{left_after};
-ghost use Rattle.wavetexts.specs.Partings.{IsLineParting, IsPartingAt, IsPartingOf, IsStandingBefore, name_or_none, printed_line, register_name, time_after, time_in};
+ghost use Rattle.wavetexts.specs.Partings.{IsLineParting, IsPartingAt, IsPartingOf, IsStandingBefore, lacking_line, name_or_none, register_name, time_after, time_in};
 
+use crate::arranging::comes_before;
 use crate::lines::split_line;
-use crate::sights::{begins_sight, left_after};
+use crate::sights::{begins_sight, left_after, prints_nothing};
 use design::{Design, RegId};
 use verdict::{WaveSite, first_difference};
 
@@ -101,18 +102,25 @@ fn name_or_none(design: &Design, register: RegId) -> &str
     }
 }
 
-// A printed line, and nothing where it begins what is seen instead.
-fn printed_line(line: &[u8]) -> &[u8]
-    ensures { result.now ≡ printed_line line.entry.now }
+// A line that another text lacks where it has another one: nothing where nothing is printed in it, or where the other one is printed and comes
+// before it, so that it may come behind that one in the other text.
+fn lacking_line<'a>(line: &'a [u8], other: &[u8]) -> &'a [u8]
+    ensures { result.now ≡ lacking_line line.entry.now other.now }
 {
-    if begins_sight(line) { &[] } else { line }
+    if prints_nothing(line) {
+        return &[];
+    }
+    if prints_nothing(other) {
+        return line;
+    }
+    if comes_before(line, other) { line } else { &[] }
 }
 
-// In what texts part whose first lines that differ begin what is seen, or don't.
+// In what texts part whose first lines that differ are these: the time that passes where nothing is printed in either.
 fn line_parting<'a>(first: &'a [u8], second: &'a [u8]) -> Parting<'a>
     ensures { IsLineParting first.entry.now second.entry.now result }
 {
-    if begins_sight(first) & begins_sight(second) {
+    if prints_nothing(first) & prints_nothing(second) {
         return Parting {
             site: WaveSite::Time,
             first: time_in(first),
@@ -121,8 +129,8 @@ fn line_parting<'a>(first: &'a [u8], second: &'a [u8]) -> Parting<'a>
     }
     Parting {
         site: WaveSite::Line,
-        first: printed_line(first),
-        second: printed_line(second),
+        first: lacking_line(first, second),
+        second: lacking_line(second, first),
     }
 }
 

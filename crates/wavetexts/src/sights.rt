@@ -1,7 +1,7 @@
 //! Lines that say what is seen when time passes.
 
 ghost use Rattle.std.specs.Prelude.{◌≡◌, ◌≢◌, [], length};
-ghost use Rattle.wavetexts.specs.AtTimes.{begins_sight, is_printed, left_after};
+ghost use Rattle.wavetexts.specs.AtTimes.{begins_sight, is_printed, left_after, prints_nothing};
 
 /// The byte with which what is seen when time passes begins.
 const SIGHT_MARK: u8 = 128;
@@ -13,6 +13,16 @@ pub(crate) fn begins_sight(line: &[u8]) -> bool
     match line.first() {
         Some(byte) => *byte == SIGHT_MARK,
         None => false,
+    }
+}
+
+/// Whether nothing is printed in a line: it begins what is seen when time passes, or the text has ended.
+pub(crate) fn prints_nothing(line: &[u8]) -> bool
+    ensures { result ≡ prints_nothing line.now }
+{
+    match line.first() {
+        Some(byte) => *byte == SIGHT_MARK,
+        None => true,
     }
 }
 

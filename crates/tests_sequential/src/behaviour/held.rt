@@ -30,7 +30,7 @@ impl RegReader for HeldRegisters {
     ghost use Rattle.std.specs.Prelude.{ℕ};
     ghost use Rattle.turn.specs.declared.memory.Seen.{Seen};
 
-    ghost registers = { 1024 };
+    ghost registers = { 65536 };
 
     ghost gave = { λ s r x. Unit {0} };
 
@@ -88,7 +88,7 @@ fn turn_of(
     now: u32,
     held: &mut HeldRegisters,
 ) -> Result<TurnLog, TurnFault> {
-    // The answer tells that there are at most 1,024, which is what the reader takes.
+    // The answer tells that there are at most 65,536, which is what the reader takes.
     let _registers = design.registers();
     run_turn(alloc, design, state, u64::from(now), held)
 }

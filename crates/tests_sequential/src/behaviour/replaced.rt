@@ -11,7 +11,6 @@ use elaborate::{ElabFault, elaborate};
 use fixtures::{SWAP, SWAP_JOURNAL};
 use journal::ReadFault;
 use model::entry::Entry;
-use model::limits::ModuleLimits;
 use model::tree::Module;
 use replay::Cause;
 use std::alloc::Global;
@@ -212,7 +211,7 @@ fn assert_elaborated(rt: &impl Abort, alloc: Global, module: &Module) {
         module.regs.len() == 1 && module.procs.len() == 1,
         "another module",
     );
-    match elaborate(alloc, ModuleLimits::Profile, module) {
+    match elaborate(alloc, module) {
         Ok(design) => assert_led(rt, alloc, &design),
         Err(fault) => holds(rt, may_be_faulty(&fault), "another fault of a module"),
     }

@@ -2,7 +2,6 @@
 
 use crate::claims::{fail, holds_at};
 use elaborate::{ElabFault, elaborate};
-use model::limits::ModuleLimits;
 use model::tree::{Module, SourceProcess, SourceStatement, Task};
 use std::alloc::Global;
 use std::process::Abort;
@@ -25,7 +24,7 @@ fn showing(rt: &impl Abort, alloc: Global, byte: u8) -> Module {
 /// Whether a format of this byte alone is refused, as the fault that it is.
 fn is_refused(rt: &impl Abort, alloc: Global, byte: u8) -> bool {
     let module = showing(rt, alloc, byte);
-    match elaborate(alloc, ModuleLimits::Profile, &module) {
+    match elaborate(alloc, &module) {
         Ok(_) => false,
         Err(ElabFault::BadFormat) => true,
         Err(ElabFault::Memory) => fail(rt, "memory"),

@@ -7,6 +7,7 @@ returns c = record {
   journal = c.given_word-2.ensures;
   from = c.given_count.ensures.given;
   to = c.given_number.ensures.given;
+  some_entry = c.requires.some;
   radix = c.given_radix.ensures;
   versions = c.given_flag.ensures;
   registers = c.given_text.ensures;

@@ -26,5 +26,5 @@ returns g c =
     let runs = subst (λ (rs : List RunRecord). All (IsRun code limits) rs) (sym c.as_slice-2.ensures.value) c.random_orders-others.ensures in
     let told = subst (λ (rs : List Race). All (λ (race : Race). IsKnown c.add_races.new.self.most c.add_races.new.self.shown.items race.exchanged) rs) c.as_slice.ensures.value c.in_ok-add_races.ensures.known in
     let most = c.in_ok-add_runs.ensures.grows.most ∙ (c.in_ok-add_races.ensures.grows.most ∙ (c.in_ok-add_run.ensures.grows.most ∙ c.new-known.ensures.most)) in
-    all_known code search_options found c.add_run.new.self c.add_races.new.self c.add_runs.new.self c.in-None.is most (c.in_ok-add_runs.ensures.lawful code limits runs two) c.in_ok-add_races.ensures.few
+    all_known code search_options found c.add_run.new.self c.add_races.new.self c.add_runs.new.self most (c.in_ok-add_runs.ensures.lawful code limits runs two) c.in_ok-add_races.ensures.few
     c.in_ok-add_runs.ensures.few c.in_ok-add_races.ensures.grows c.in_ok-add_runs.ensures.grows c.in_ok-add_run.ensures.known told

@@ -1,5 +1,6 @@
-use Rattle.std.proofs.Common.{◌≡◌, ◌++◌, ℕ, List, codes, option_map, refl}
-use Rattle.verdict.specs.Verdicts.{up_to, these_lines, lines_in, states_text, endless_text}
+use Rattle.std.proofs.Common.{◌≡◌, ◌++◌, ◌∙◌, ap, ℕ, List, codes, option_map, refl, subst}
+use Rattle.verdict.specs.StopLines.{has_stops, stops_text}
+use Rattle.verdict.specs.Verdicts.{every_or_none, run_prints, up_to, these_lines, lines_in, states_text, endless_text}
 use Rattle.verdict.proofs.Pieces.{joined, joined_last}
 use Rattle.verdict.proofs.verdict.push_one.Goals as goal
 
@@ -11,13 +12,18 @@ returns c =
     let only = verdict.first.now in
     let lines = these_lines (lines_in only) in
     let states = states_text c.args.states in
-    let endless = endless_text c.args.endless (option_map (λ path. path.now) verdict.prefix) in
-    let begun : List ℕ = codes ": every lawful run" in
-    let prints : List ℕ = codes " that comes to an end prints " in
-    let two = joined c.push_up_to.new.text.items old begun c.extend_from_slice.new.self.items until c.in_ok-push_up_to.ensures c.in_ok-extend_from_slice.ensures.items in
-    let three = joined c.extend_from_slice-2.new.self.items old (begun ++ until) c.push_up_to.new.text.items prints c.in_ok-extend_from_slice-2.ensures.items two in
+    let prefix = option_map (λ path. path.now) verdict.prefix in
+    let stops = stops_text (codes "text ") prefix verdict.stops.now in
+    let endless = endless_text c.args.endless prefix in
+    let begun = every_or_none (has_stops verdict.stops.now) in
+    let prints = run_prints (has_stops verdict.stops.now) in
+    let one = subst (λ (l : List ℕ). c.extend_from_slice.new.self.items ≡ old ++ l) (c.every_or_none.ensures ∙ ap every_or_none c.has_stops-some.ensures) c.in_ok-extend_from_slice.ensures.items in
+    let two = joined c.push_up_to.new.text.items old begun c.extend_from_slice.new.self.items until c.in_ok-push_up_to.ensures one in
+    let said = subst (λ (l : List ℕ). c.extend_from_slice-2.new.self.items ≡ c.push_up_to.new.text.items ++ l) (c.run_prints.ensures ∙ ap run_prints c.has_stops-some.ensures) c.in_ok-extend_from_slice-2.ensures.items in
+    let three = joined c.extend_from_slice-2.new.self.items old (begun ++ until) c.push_up_to.new.text.items prints said two in
     let four = joined c.push_these_lines.new.text.items old (begun ++ until ++ prints) c.extend_from_slice-2.new.self.items lines c.in_ok-push_these_lines.ensures three in
     let five = joined c.push_states.new.text.items old (begun ++ until ++ prints ++ lines) c.push_these_lines.new.text.items states c.in_ok-push_states.ensures four in
-    let six = joined c.push_endless.new.text.items old (begun ++ until ++ prints ++ lines ++ states) c.push_states.new.text.items endless c.in_ok-push_endless.ensures five in
-    joined_last c.extend_from_slice-3.result c.extend_from_slice-3.new.self.items old (begun ++ until ++ prints ++ lines ++ states ++ endless) c.push_endless.new.text.items
-    only only c.extend_from_slice-3.ensures.items six refl
+    let six = joined c.push_stops.new.text.items old (begun ++ until ++ prints ++ lines ++ states) c.push_states.new.text.items stops c.in_ok-push_stops.ensures five in
+    let seven = joined c.push_endless.new.text.items old (begun ++ until ++ prints ++ lines ++ states ++ stops) c.push_stops.new.text.items endless c.in_ok-push_endless.ensures six in
+    joined_last c.extend_from_slice-3.result c.extend_from_slice-3.new.self.items old (begun ++ until ++ prints ++ lines ++ states ++ stops ++ endless) c.push_endless.new.text.items
+    only only c.extend_from_slice-3.ensures.items seven refl

@@ -1,6 +1,7 @@
-use Rattle.std.proofs.Common.{◌≡◌, ◌++◌, ℕ, List, codes, option_map}
+use Rattle.std.proofs.Common.{◌≡◌, ◌++◌, ◌∙◌, ap, ℕ, List, codes, option_map, subst}
+use Rattle.verdict.specs.StopLines.{has_stops, stops_text}
 use Rattle.verdict.specs.Verdicts.{up_to, states_text, endless_text}
-use Rattle.verdict.specs.WaveLines.{same_text}
+use Rattle.verdict.specs.WaveLines.{in_every_or_none, run_has, same_text}
 use Rattle.verdict.proofs.Pieces.{joined, joined_if_ok}
 use Rattle.verdict.proofs.waves.push_one_wave.Goals as goal
 
@@ -11,12 +12,17 @@ returns c =
     let until = up_to verdict.until in
     let same = same_text verdict.registers verdict.lines in
     let states = states_text c.args.states in
-    let endless = endless_text c.args.endless (option_map (λ path. path.now) verdict.prefix) in
-    let begun : List ℕ = codes ": in every lawful run" in
-    let ends : List ℕ = codes " that comes to an end " in
-    let two = joined c.push_up_to.new.text.items old begun c.extend_from_slice.new.self.items until c.in_ok-push_up_to.ensures c.in_ok-extend_from_slice.ensures.items in
-    let three = joined c.extend_from_slice-2.new.self.items old (begun ++ until) c.push_up_to.new.text.items ends c.in_ok-extend_from_slice-2.ensures.items two in
+    let prefix = option_map (λ path. path.now) verdict.prefix in
+    let stops = stops_text (codes "wave ") prefix verdict.stops.now in
+    let endless = endless_text c.args.endless prefix in
+    let begun = in_every_or_none (has_stops verdict.stops.now) in
+    let ends = run_has (has_stops verdict.stops.now) in
+    let one = subst (λ (l : List ℕ). c.extend_from_slice.new.self.items ≡ old ++ l) (c.in_every_or_none.ensures ∙ ap in_every_or_none c.has_stops-some.ensures) c.in_ok-extend_from_slice.ensures.items in
+    let two = joined c.push_up_to.new.text.items old begun c.extend_from_slice.new.self.items until c.in_ok-push_up_to.ensures one in
+    let said = subst (λ (l : List ℕ). c.extend_from_slice-2.new.self.items ≡ c.push_up_to.new.text.items ++ l) (c.run_has.ensures ∙ ap run_has c.has_stops-some.ensures) c.in_ok-extend_from_slice-2.ensures.items in
+    let three = joined c.extend_from_slice-2.new.self.items old (begun ++ until) c.push_up_to.new.text.items ends said two in
     let four = joined c.push_same.new.text.items old (begun ++ until ++ ends) c.extend_from_slice-2.new.self.items same c.in_ok-push_same.ensures three in
     let five = joined c.push_states.new.text.items old (begun ++ until ++ ends ++ same) c.push_same.new.text.items states c.in_ok-push_states.ensures four in
-    joined_if_ok c.push_endless.result c.push_endless.new.text.items old (begun ++ until ++ ends ++ same ++ states) c.push_states.new.text.items endless
-    c.push_endless.ensures five
+    let six = joined c.push_stops.new.text.items old (begun ++ until ++ ends ++ same ++ states) c.push_states.new.text.items stops c.in_ok-push_stops.ensures five in
+    joined_if_ok c.push_endless.result c.push_endless.new.text.items old (begun ++ until ++ ends ++ same ++ states ++ stops) c.push_stops.new.text.items endless
+    c.push_endless.ensures six

@@ -7,7 +7,7 @@ use Rattle.design.specs.Sound.{IsSound}
 use Rattle.design.specs.DesignTrees as tree
 use Rattle.elaborate.specs.Small.{AreSmallProcesses}
 use Rattle.elaborate.proofs.Whole.{same_design}
-use Rattle.elaborate.proofs.elaboration.elaborate.Goals as goal
+use Rattle.elaborate.proofs.elaboration.elaborate_within.Goals as goal
 
 pub processes-requires : goal.processes-requires
 processes-requires c = subst (λ ps. AreSmallProcesses (map trees.source_process_of ps)) (sym c.as_slice.ensures.value) c.in_ok-names.ensures.small
