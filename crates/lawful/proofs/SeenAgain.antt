@@ -157,3 +157,23 @@ made_seen_again class code limits observing from node other run moves again stan
       };
       rest = sym (ap tail_of (read ∙ behind));
     }
+
+-- what is told before a transition at which no time passes: nothing
+pub told_nothing : (observe : Observer) (s : State) (transition : LooseTransition) (text lines : List ℕ) → StaysInTime transition → text ++ lines ≡ (text ++ lines) ++ seen_at_move observe s transition
+told_nothing observe s transition text lines stays =
+    sym (ap (λ l. (text ++ lines) ++ l) (move_unseen observe s transition stays) ∙ append-nil (text ++ lines))
+
+-- and before one at which it does: what was printed, and what is seen
+pub told_passing : {E : Type 0} (observe : Observer) (old mid : MachineView) (transition : LooseTransition) (r : Result (Unit {0}) E) (text told all : List ℕ) → seen_at_move observe (state_at old) transition ≡ observe (state_at old) → mid ≡ record old { lines = [] } → told ≡ text ++ old.lines
+    → OnOk r (all ≡ told ++ observe (state_at mid)) → OnOk r (all ++ mid.lines ≡ (text ++ old.lines) ++ seen_at_move observe (state_at old) transition)
+told_passing observe old mid transition (Ok u) text told all passes same is seen =
+    ap (λ (p : MachineView). all ++ p.lines) same
+    ∙ (append-nil all
+    ∙ (seen
+    ∙ (ap (λ (p : MachineView). told ++ observe (state_at p)) same
+    ∙ (ap (λ l. l ++ observe (state_at old)) is ∙ sym (ap (λ l. (text ++ old.lines) ++ l) passes)))))
+told_passing observe old mid transition (Err e) text told all passes same is seen = tt
+
+-- a machine whose lines were taken is the same but for these
+pub same_but_lines : (old new : MachineView) → new ≡ record old { lines = [] } → new ≡ record old { lines = new.lines }
+same_but_lines old new same = same ∙ sym (ap (λ (l : List ℕ). record old { lines = l }) (ap (λ (p : MachineView). p.lines) same))
