@@ -1,5 +1,6 @@
 -- Codes that are put bit by bit.
-use Rattle.std.proofs.Common.{◌≡◌, ◌∙◌, ap, sym, subst, ℕ, zero, suc, ◌-◌, ◌<◌, ◌≤◌, List, [], ◌∷◌, ◌++◌, length, append_assoc, Result, Ok, Err, OnOk, arith}
+use Rattle.std.proofs.Common.{◌≡◌, ◌∙◌, ap, sym, subst, ℕ, zero, suc, ◌-◌, ◌<◌, ◌≤◌, List, [], ◌∷◌, ◌++◌, length, append_assoc, Result, Ok, Err, OnOk, is_ok, arith}
+use Rattle.std.specs.Prelude.{if◌then◌else◌}
 use Rattle.regions.specs.Machine.{MachineView}
 use Rattle.statekeys.specs.ClassKeys.{IsClassKey}
 use Rattle.wavetexts.specs.Reading.{ReadText}
@@ -39,10 +40,9 @@ tail_put (Err e) begun one two last held part given rest left first second is_he
 
 -- the code of what a node has of a text, and a class key behind it
 pub tail_key_is : {E : Type 0} (class : ℕ → ℕ) (node : LooseNode) (m : MachineView) (r : Result (Unit {0}) E) (begun one last rest given : List ℕ) (t : ReadText) → m ≡ node.machine.value → IsClassKey class m.core m.values rest → t ≡ tail_at node → begun ≡ [] → one ≡ begun ++ tail_code t → given ≡ rest
-    → OnOk r (last ≡ one ++ given) → OnOk r (IsTailKey class node last)
+    → last ≡ (if is_ok r then one ++ given else one) → OnOk r (IsTailKey class node last)
 tail_key_is class node m (Ok u) begun one last rest given t same keyed tail none put is behind =
-    let coded : one ≡ tail_code (tail_at node) = put ∙ (ap (λ l. l ++ tail_code t) none ∙ ap tail_code tail) in
-    (
+    let coded : one ≡ tail_code (tail_at node) = put ∙ (ap (λ l. l ++ tail_code t) none ∙ ap tail_code tail) in (
       rest,
       subst (λ (p : MachineView). IsClassKey class p.core p.values rest) same keyed,
       behind ∙ (ap (λ l. one ++ l) is ∙ ap (λ l. l ++ rest) coded),

@@ -139,6 +139,8 @@ impl<'a, 'd, T: RunTelling> Orders for LooseRuns<'a, 'd, T> {
 
     fn weight(&self, node: &LooseNode<'d>) -> usize {
         weight(&node.machine)
+            .saturating_add(node.tail.held.len())
+            .saturating_add(node.tail.part.len())
     }
 
     // The machine of a node after these further transitions; the node's own stays where it stands.

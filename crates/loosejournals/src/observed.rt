@@ -1,5 +1,5 @@
 //! The lawful journal of a loose run before an observer.
-ghost use Rattle.std.specs.Prelude.{◌≡◌, ◌≤◌, true, IfOk, IfSome};
+ghost use Rattle.std.specs.Prelude.{◌≤◌, IfOk, IfSome};
 ghost use Rattle.model.specs.Runs.{last_time};
 ghost use Rattle.observers.specs.Observers.{observer_of};
 ghost use Rattle.runs.specs.RunRecords.{IsRun};
@@ -40,22 +40,12 @@ fn seen_of(
     }
     let RunRecord { journal, end, .. } = led;
     match observe_journal(scope.alloc, scope.design, observing, &journal)? {
-        Some(observation) => Ok(Some(seen_as(journal, end, observation))),
+        Some(observation) => {
+            let Observation { text, seen } = observation;
+            let end = ObservedEnd { end, seen };
+            Ok(Some(SeenJournal { journal, text, end }))
+        }
         None => Ok(None),
-    }
-}
-
-// A journal whose run ends so, with this seen of it.
-fn seen_as(journal: Vec<Entry>, end: End, observation: Observation) -> SeenJournal
-    ensures journal { result.journal ≡ journal }
-    ensures text { result.text ≡ observation.text }
-    ensures end { result.end ≡ record { end = end; seen = observation.seen.items } }
-{
-    let Observation { text, seen } = observation;
-    SeenJournal {
-        journal,
-        text,
-        end: ObservedEnd { end, seen },
     }
 }
 
