@@ -1,10 +1,9 @@
 -- What orders before an observer say of the journals that are shown, with the lines of each time in order.
-use Rattle.std.proofs.Common.{◌≡◌, ℕ, List, [], ◌∷◌, ◌++◌, Option, Some, None, Result, Ok, Err, sym, ap, ◌∙◌, subst}
+use Rattle.std.proofs.Common.{◌≡◌, ℕ, List, [], ◌∷◌, ◌++◌, Option, Some, None, Result, Ok, Err, Bool, true, false, not, refl, sym, ap, ◌∙◌, subst}
 use Rattle.std.specs.Prelude.{IfOk, IfSome}
 use Rattle.std.specs.List.{All, Any}
 use Rattle.std.proofs.lemmas.List.Elements.{All-weaker}
 use Rattle.model.specs.declared.entry.Entry.{Entry}
-use Rattle.model.specs.declared.end.End.{End}
 use Rattle.model.specs.declared.end.Limits.{Limits}
 use Rattle.model.specs.Texts.{IsWithinLimits}
 use Rattle.design.specs.Compiled.{Compiled, design_of}
@@ -15,13 +14,12 @@ use Rattle.observers.specs.declared.observing.Observing.{Observing}
 use Rattle.observers.specs.Observers.{observer_of}
 use Rattle.loosejournals.specs.FoundJournals.{IsSeenJournal}
 use Rattle.loosejournals.specs.declared.observed.SeenJournal.{SeenJournal}
-use Rattle.wavetexts.specs.Reading.{ReadText, read_on, tail_of, text_with, unread, whole_text}
+use Rattle.wavetexts.specs.Reading.{ReadText, read_on, text_with, unread}
 use Rattle.wavetexts.specs.declared.reading.TextTail.{TextTail}
 use Rattle.wavetexts.proofs.ReadTexts.{read_in_two}
 use Rattle.arrangedruns.specs.ArrangedRuns.{arranged_end}
 use Rattle.lawful.specs.ArrangedNodes.{IsArrangedAmong, IsArrangedJournalOf, IsArrangedText, IsArrangementOf, registers_seen}
 use Rattle.lawful.specs.Journals.{HasLawfulJournal, texts_and_ends}
-use Rattle.lawful.proofs.ArrangedWays.{rest_reads}
 
 -- a text in order for good, and an end with the rest, are the arrangement of what was read
 pub is_arrangement : (registers : ℕ) (text : List ℕ) (end : SeenEnd) (arranged : List ℕ) (last : SeenEnd) → arranged ≡ (read_on registers unread text).done → last ≡ arranged_end registers (read_on registers unread text) end → IsArrangementOf registers text end arranged last
@@ -61,12 +59,10 @@ pub first_read : (registers : ℕ) (begun after : TextTail) (done given text : L
 first_read registers begun after done given text none same read =
     read ∙ (ap (λ (t : ReadText). read_on registers t given) none ∙ ap (read_on registers unread) same)
 
--- an end that has the rest of what was read, in order
-pub last_read : (registers : ℕ) (t : ReadText) (after : TextTail) (done rest given : List ℕ) (end last : SeenEnd) → text_with done after ≡ t → given ≡ end.seen → rest ≡ whole_text registers (read_on registers (text_with [] after) given) → rest ≡ last.seen → end.end ≡ last.end
-    → last ≡ arranged_end registers t end
-last_read registers t after done rest given end last read same whole is one =
-    let seen : last.seen ≡ whole_text registers (read_on registers (tail_of t) end.seen) = sym is ∙ rest_reads registers t after done rest given end.seen read same whole in
-    ap (λ (h : End). record { end = h; seen = last.seen }) (sym one) ∙ ap (λ (l : List ℕ). record { end = end.end; seen = l }) seen
+-- a test that isn't turned
+pub not_other : (b : Bool) → false ≡ not b → true ≡ b
+not_other true h = refl
+not_other false h = cc
 
 -- the journal beside which a text and its end stand, where these are seen so of it
 pub journal_arranged : (code : Compiled) (limits : Limits) (observing : Observing) (found : SeenJournal) (registers : ℕ) (text : List ℕ) (end : SeenEnd) → registers ≡ registers_seen observing

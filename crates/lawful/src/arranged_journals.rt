@@ -26,16 +26,17 @@ fn is_seen_so(
     ensures text { IfOk result (λ same. same ≡ true → shown.now.text.items ≡ (read_on registers unread found.now.text.items).done) }
     ensures end { IfOk result (λ same. same ≡ true → shown.now.end ≡ arranged_end registers (read_on registers unread found.now.text.items) found.now.end) }
 {
-    if found.end.end != shown.end.end {
-        return Ok(false);
-    }
     let mut tail = TextTail::new(alloc);
     let done = tail.read(alloc, registers, &found.text)?;
     if done.as_slice() != shown.text.as_slice() {
         return Ok(false);
     }
-    let rest = tail.finish(alloc, registers, &found.end.seen)?;
-    Ok(rest.as_slice() == shown.end.seen.as_slice())
+    let seen = tail.finish(alloc, registers, &found.end.seen)?;
+    let last = ObservedEnd {
+        end: found.end.end,
+        seen,
+    };
+    Ok(last.is_same(&shown.end))
 }
 
 /// The journal that was found of a run that is shown, where the same is seen of it with the lines of each time in order. None where something else
