@@ -325,7 +325,8 @@ impl Segment {
         }
     }
 
-    // Keeps the conflict of two steps, if the later one doesn't need the earlier one. Behind one that finishes the run there is none.
+    // Keeps the conflict of two steps, if the later one doesn't need the earlier one. One that finishes the run may not finish it where it comes
+    // before the other; where it does, no second run comes of this conflict, but one of that by which the other is cut off.
     fn add(
         &self,
         conflicts: &mut Conflicts,
@@ -333,7 +334,7 @@ impl Segment {
         earlier: (usize, Does),
         later: (usize, Does),
     ) {
-        if self.finishing == Some(later.0) || self.comes_of(later.0, earlier.0) {
+        if self.comes_of(later.0, earlier.0) {
             return;
         }
         if let Some(pair) = self.pair(site, earlier, later) {

@@ -1,5 +1,5 @@
 -- Runs that are followed from time to time.
-use Rattle.std.proofs.Common.{◌≡◌, ◌∙◌, ap, sym, refl, subst, ℕ, zero, suc, ◌+◌, ◌<◌, ◌≤◌, Bool, true, false, nat_lt, List, [], ◌∷◌, ◌++◌, length, take, drop, if◌then◌else◌, append-nil, drop-cons, Option, Some, arith}
+use Rattle.std.proofs.Common.{◌≡◌, ◌∙◌, ap, sym, refl, subst, ℕ, zero, suc, ◌+◌, ◌<◌, ◌≤◌, Bool, true, false, List, [], ◌∷◌, ◌++◌, length, take, drop, if◌then◌else◌, append-nil, drop-cons, Some, arith}
 use Rattle.std.specs.Prelude.{flat_map, slice_index, slice_index_or}
 use Rattle.std.specs.List.Sorted.{IsStrictlyIncreasing}
 use Rattle.std.proofs.lemmas.Bool.{ltb-true, ltb-false}
@@ -9,14 +9,15 @@ use Rattle.logic4.specs.Vector.{Vector}
 use Rattle.model.specs.declared.entry.Entry.{Entry}
 use Rattle.model.specs.declared.entry.Entry.TheVariants.{Turn, Update, ActivateInactive, ActivateNba, ActivateMonitor, Advance}
 use Rattle.model.specs.Design.{Design}
-use Rattle.model.specs.States.{State, start}
-use Rattle.model.specs.Runs.{Effect, run}
+use Rattle.model.specs.States.{State}
+use Rattle.model.specs.Runs.{run}
 use Rattle.design.specs.Compiled.{Compiled, design_of}
-use Rattle.regions.specs.Machine.{MachineView, state_at}
-use Rattle.replay.specs.Replays.{IsBehind}
-use Rattle.replay.proofs.AtStart.{behind_none}
+use Rattle.differences.specs.declared.followed_run.FollowedRun.{FollowedRun}
+use Rattle.differences.specs.declared.value_difference.GivenValue.{GivenValue}
 use Rattle.differences.specs.declared.value_difference.ValueDifference.{ValueDifference}
-use Rattle.differences.specs.ComparedValues.{count_until, differing, goes_past, rows_at, store_left, values_when}
+use Rattle.differences.specs.ComparedValues.{count_until, differing, given_from, given_values, given_when, goes_past, rows_at, store_left, values_when}
+use Rattle.differences.specs.Givers.{last_giver}
+use Rattle.differences.proofs.Given.{given_are}
 use Rattle.differences.specs.Following.{IsRunFollowed, IsFollowedSince, IsFollowedTo}
 
 -- how many entries come before a time passes
@@ -70,31 +71,22 @@ until_end t [] (suc at) h = refl
 until_end t (e ∷ es) zero h = absurd (omega (arith, h))
 until_end t (e ∷ es) (suc at) h = until_end t es at (omega (arith, h))
 
--- a machine that took so many entries
-
-pub followed_at : (journal : List Entry) (at : ℕ) (p : MachineView) → at ≤ length journal → IsBehind (take at journal) p → p.core.entries ≡ at → IsRunFollowed journal p
-followed_at journal at p within behind count = record {
-  within = subst (λ (n : ℕ). n ≤ length journal) (sym count) within;
-  behind = subst (λ (n : ℕ). IsBehind (take n journal) p) (sym count) behind;
-}
-
 -- where the entries up to a time are taken
-pub passed : (journal : List Entry) (t at from : ℕ) (p : MachineView) → p.core.entries ≡ at → at + count_until t (drop at journal) ≡ from + count_until t (drop from journal)
-    → count_until t (drop at journal) ≡ 0 → p.core.entries ≡ from + count_until t (drop from journal)
-passed journal t at from p count h none = omega (arith, count, h, none)
+pub passed : (journal : List Entry) (t at from count : ℕ) → count ≡ at → at + count_until t (drop at journal) ≡ from + count_until t (drop from journal)
+    → count_until t (drop at journal) ≡ 0 → count ≡ from + count_until t (drop from journal)
+passed journal t at from count is h none = omega (arith, is, h, none)
 
--- at the start
-pub followed_none : (code : Compiled) (journal : List Entry) (times : List ℕ) (p : MachineView) → p.code ≡ code → state_at p ≡ start (design_of code) → p.lines ≡ [] → p.core.entries ≡ 0
-    → IsFollowedSince journal times 0 p
-followed_none code journal times p same first lines none = record {
-  followed = followed_at journal 0 p (omega arith) (behind_none code p same first lines) none;
+-- at the start each time is ahead
+pub followed_none : (journal : List Entry) (times : List ℕ) (run : FollowedRun) → IsRunFollowed journal run → run.explainer.position.core.entries ≡ 0 → IsFollowedSince journal times 0 run
+followed_none journal times run followed none = record {
+  followed = followed;
   ahead = λ time after. subst (λ (n : ℕ). count_until time journal ≡ n + count_until time (drop n journal)) (sym none) (omega arith);
 }
 
 -- one time more
 
-module _ (journal : List Entry) (times : List ℕ) (place d : ℕ) (old new : MachineView) (inside : place < length times) (rise : IsStrictlyIncreasing times)
-    (since : IsFollowedSince journal times place old) (to : IsFollowedTo (slice_index_or times place d) journal old new) where
+module _ (journal : List Entry) (times : List ℕ) (place d : ℕ) (old new : FollowedRun) (inside : place < length times) (rise : IsStrictlyIncreasing times) (since : IsFollowedSince journal times place old)
+    (to : IsFollowedTo (slice_index_or times place d) journal old new) where
   same_time : slice_index_or times place d ≡ slice_index times place
   same_time = get_or_default_zero times place d inside
 
@@ -104,7 +96,7 @@ module _ (journal : List Entry) (times : List ℕ) (place d : ℕ) (old new : Ma
       let there : slice_index times (k + 1) ≡ slice_index times place = ap (slice_index times) is in
       omega (arith, lower, there, same_time)
 
-  pub count_there : new.core.entries ≡ count_until (slice_index_or times place d) journal
+  pub count_there : new.explainer.position.core.entries ≡ count_until (slice_index_or times place d) journal
   count_there = to.count ∙ sym (since.ahead (slice_index_or times place d) later)
 
   pub since_next : IsFollowedSince journal times (place + 1) new
@@ -116,23 +108,33 @@ module _ (journal : List Entry) (times : List ℕ) (place d : ℕ) (old new : Ma
         subst (λ (n : ℕ). count_until time journal ≡ n + count_until time (drop n journal)) (sym count_there) (further (slice_index_or times place d) time journal le);
   }
 
-  pub values_there : (code : Compiled) → new.code ≡ code → new.values ≡ values_when (design_of code) journal (slice_index_or times place d)
+  values_there : (code : Compiled) → new.explainer.position.code ≡ code → new.explainer.position.values ≡ values_when (design_of code) journal (slice_index_or times place d)
   values_there code same =
-      let ran : run (design_of code) (take new.core.entries journal) ≡ Some to.followed.behind.effect =
-      ap (λ (c : Compiled). run (design_of c) (take new.core.entries journal)) (sym same) ∙ to.followed.behind.is_run in
+      let ran : run (design_of code) (take new.explainer.position.core.entries journal) ≡ Some to.followed.behind.effect =
+      ap (λ (c : Compiled). run (design_of c) (take new.explainer.position.core.entries journal)) (sym same) ∙ to.followed.behind.is_run in
       ap (λ (s : State). s.store) (sym to.followed.behind.state_is)
       ∙ (ap store_left (sym ran) ∙ ap (λ (n : ℕ). store_left (run (design_of code) (take n journal))) count_there)
 
+  pub given_there : (code : Compiled) → new.explainer.position.code ≡ code → length new.explainer.position.values ≡ length new.givers.items
+      → given_values new.explainer.position.values new.givers.items ≡ given_when (design_of code) journal (slice_index_or times place d)
+  given_there code same long =
+      let values : List Vector = new.explainer.position.values in
+      let count : ℕ = new.explainer.position.core.entries in
+      given_are values new.givers.items (λ r. last_giver (design_of new.explainer.position.code) journal r count) long to.followed.givers_are
+      ∙ (ap (λ (c : Compiled). given_from (λ r. last_giver (design_of c) journal r count) 0 values) same
+      ∙ (ap (λ (n : ℕ). given_from (λ r. last_giver (design_of code) journal r n) 0 values) count_there
+      ∙ ap (given_from (λ r. last_giver (design_of code) journal r (count_until (slice_index_or times place d) journal)) 0) (values_there code same)))
+
 -- the rows of one time more
-pub rows_next : (design : Design) (first second : List Entry) (times : List ℕ) (place d : ℕ) (rows rows' : List ValueDifference) (one other : List Vector) → place < length times
+pub rows_next : (design : Design) (first second : List Entry) (times : List ℕ) (place d : ℕ) (rows rows' : List ValueDifference) (one other : List GivenValue) → place < length times
     → rows ≡ flat_map (rows_at design first second) (take place times) → rows' ≡ rows ++ differing (slice_index_or times place d) 0 one other
-    → one ≡ values_when design first (slice_index_or times place d) → other ≡ values_when design second (slice_index_or times place d)
+    → one ≡ given_when design first (slice_index_or times place d) → other ≡ given_when design second (slice_index_or times place d)
     → rows' ≡ flat_map (rows_at design first second) (take (place + 1) times)
 rows_next design first second times place d rows rows' one other inside before put is_one is_other =
     let time : ℕ = slice_index_or times place d in
     let rows_of : ℕ → List ValueDifference = rows_at design first second in
     let here : differing time 0 one other ≡ rows_of time =
-    ap (λ (v : List Vector). differing time 0 v other) is_one ∙ ap (λ (v : List Vector). differing time 0 (values_when design first time) v) is_other in
+    ap (λ (v : List GivenValue). differing time 0 v other) is_one ∙ ap (λ (v : List GivenValue). differing time 0 (given_when design first time) v) is_other in
     let all : flat_map rows_of (take (place + 1) times) ≡ flat_map rows_of (take place times) ++ rows_of time =
     ap (flat_map rows_of) (take_more times place d inside)
     ∙ (flat_map-append rows_of (take place times) (time ∷ []) ∙ ap (λ (l : List ValueDifference). flat_map rows_of (take place times) ++ l) (append-nil (rows_of time))) in

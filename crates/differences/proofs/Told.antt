@@ -1,13 +1,13 @@
 -- What is told of two journals, put together.
-use Rattle.std.proofs.Common.{◌≡◌, ◌∙◌, ap, sym, refl, subst, ℕ, ◌<◌, ◌≤◌, ◌&&◌, min, not, Bool, true, false, nat_lt, List, [], ◌++◌, length, append_assoc, append-nil, codes, string_bytes, Result, Ok, Err, IfOk, OnOk, is_ok, if◌then◌else◌, arith}
-use Rattle.std.specs.Prelude.{◌↔◌, IsTrue, flat_map}
+use Rattle.std.proofs.Common.{◌≡◌, ◌∙◌, ap, sym, refl, subst, ℕ, ◌<◌, ◌≤◌, ◌&&◌, min, not, Bool, true, false, nat_lt, List, [], ◌++◌, length, append-nil, codes, string_bytes, Result, Ok, Err, IfOk, OnOk, is_ok, if◌then◌else◌, arith}
+use Rattle.std.specs.Prelude.{flat_map}
 use Rattle.std.proofs.lemmas.Bool.{ltb-true, lt-ltb}
 use Rattle.explain.proofs.Pieces.{joined}
 use Rattle.model.specs.declared.entry.Entry.{Entry}
 use Rattle.model.specs.Design.{Design}
 use Rattle.model.specs.States.{State}
 use Rattle.locations.specs.SourceLocations.{AreProcesses}
-use Rattle.model.specs.Runs.{Effect, has_any, is_quiet, run}
+use Rattle.model.specs.Runs.{has_any, is_quiet, run}
 use Rattle.design.specs.Compiled.{Compiled, design_of}
 use Rattle.explain.specs.declared.phrases.SourceNames.{SourceNames}
 use Rattle.explain.specs.EntryLines.{plain_style}
@@ -23,15 +23,17 @@ use Rattle.differences.specs.declared.fault.RunFault.{RunFault}
 use Rattle.differences.specs.declared.fault.RunFault.TheVariants as running
 use Rattle.differences.specs.CompareFaults.{IsCompareFaultOf, IsRunFaultOf, compare_fault_of, journal_of, untold}
 use Rattle.differences.specs.declared.comparison.Comparison.{Comparison}
+use Rattle.differences.specs.declared.ends.EndsCompared.{EndsCompared}
 use Rattle.differences.specs.declared.summary.RunSummary.{RunSummary}
 use Rattle.differences.specs.declared.value_difference.ValueDifference.{ValueDifference}
 use Rattle.differences.specs.Parting.{PartBehind}
 use Rattle.differences.specs.Summaries.{IsSummaryOf}
+use Rattle.differences.specs.EndsOfRuns.{HowEndsCompare, HowRunsEnd, are_alike}
 use Rattle.differences.specs.ComparedValues.{AreComparedTimes, rows_at}
 use Rattle.differences.specs.ComparedLines.{IsLinesText, IsSideText, PutsLinesText, PutsParting, PutsSide, ends_text, earlier_end_text, parting_title_text, values_text}
-use Rattle.differences.specs.Comparisons.{AreEndsAlike, AreRowsUpTo, EndAlike, IsCompared, IsComparison, PutsTold, last_compared}
+use Rattle.differences.specs.Comparisons.{AreRowsUpTo, IsCompared, IsComparison, PutsTold, last_compared}
 
--- a fault of one of two journals, and why a line isn't put
+-- a fault of one of two journals, and why an entry isn't told
 
 pub side_fault : (code : Compiled) (first second : List Entry) (side : JournalSide) (f : RunFault) → IsRunFaultOf code (journal_of side first second) f → IsCompareFaultOf code first second (compare_fault_of side f)
 side_fault code first second side (running.Replay fault) h = h
@@ -108,37 +110,37 @@ last_put (Ok x) new mid b target put is = put ∙ is
 last_put (Err e) new mid b target put is = tt
 
 -- all that is told behind where they part
-pub told_put : (names : SourceNames) (one other : RunSummary) (rows : List ValueDifference) (old t1 t2 t3 t4 : List ℕ) (same_lines like same : Bool)
+pub told_put : (names : SourceNames) (one other : RunSummary) (rows : List ValueDifference) (old t1 t2 t3 t4 : List ℕ) (same_lines same : Bool) (ends : EndsCompared)
     → PutsLinesText (string_bytes one.lines) (string_bytes other.lines) old t1 same_lines
-    → IsTrue like ↔ AreEndsAlike one.time one.finished one.quiet other.time other.finished other.quiet → t2 ≡ t1 ++ ends_text like one.ending.items other.ending.items
-    → t3 ≡ t2 ++ values_text names rows → t4 ≡ t3 ++ earlier_end_text one.time other.time → same ≡ (same_lines && (like && not (has_any rows))) → PutsTold names one other rows old t4 same
-told_put names one other rows old t1 t2 t3 t4 same_lines like same lines is_like ends values stop is_same = record {
+    → HowEndsCompare one.time one.finished one.quiet other.time other.finished other.quiet ends → t2 ≡ t1 ++ ends_text ends one.ending.items other.ending.items
+    → t3 ≡ t2 ++ values_text names rows → t4 ≡ t3 ++ earlier_end_text one.time other.time → same ≡ (same_lines && (are_alike ends && not (has_any rows))) → PutsTold names one other rows old t4 same
+told_put names one other rows old t1 t2 t3 t4 same_lines same ends lines ends_are ended values stop is_same = record {
   same_lines = same_lines;
   printed = lines.text;
   is_printed = lines.is_text;
-  same_ends = like;
-  end_alike = is_like;
-  put = four old lines.text (ends_text like one.ending.items other.ending.items) (values_text names rows) (earlier_end_text one.time other.time) t1 t2 t3 t4 lines.put ends values stop;
+  ends = ends;
+  ends_are = ends_are;
+  put = four old lines.text (ends_text ends one.ending.items other.ending.items) (values_text names rows) (earlier_end_text one.time other.time) t1 t2 t3 t4 lines.put ended values stop;
   same_is = is_same;
 }
 
--- two runs whose summaries end alike end alike
-alike_so : (b : Bool) (t t' u u' : ℕ) (f f' g g' q q' r r' : Bool) → t ≡ t' → f ≡ f' → q ≡ q' → u ≡ u' → g ≡ g' → r ≡ r' → IsTrue b ↔ AreEndsAlike t f q u g r → IsTrue b ↔ AreEndsAlike t' f' q' u' g' r'
-alike_so b t t' u u' f f' g g' q q' r r' ht hf hq hu hg hr h =
-    subst (λ (x : Bool). IsTrue b ↔ AreEndsAlike t' f' q' u' g' x) hr
-    (subst (λ (x : Bool). IsTrue b ↔ AreEndsAlike t' f' q' u' x r) hg
-    (subst (λ (x : ℕ). IsTrue b ↔ AreEndsAlike t' f' q' x g r) hu
-    (subst (λ (x : Bool). IsTrue b ↔ AreEndsAlike t' f' x u g r) hq
-    (subst (λ (x : Bool). IsTrue b ↔ AreEndsAlike t' x q u g r) hf (subst (λ (x : ℕ). IsTrue b ↔ AreEndsAlike x f q u g r) ht h)))))
+-- the ends of two runs compare as those of their summaries do
+ends_so : (e : EndsCompared) (t t' u u' : ℕ) (f f' g g' q q' r r' : Bool) → t ≡ t' → f ≡ f' → q ≡ q' → u ≡ u' → g ≡ g' → r ≡ r' → HowEndsCompare t f q u g r e → HowEndsCompare t' f' q' u' g' r' e
+ends_so e t t' u u' f f' g g' q q' r r' ht hf hq hu hg hr h =
+    subst (λ (x : Bool). HowEndsCompare t' f' q' u' g' x e) hr
+    (subst (λ (x : Bool). HowEndsCompare t' f' q' u' x r e) hg
+    (subst (λ (x : ℕ). HowEndsCompare t' f' q' x g r e) hu
+    (subst (λ (x : Bool). HowEndsCompare t' f' x u g r e) hq
+    (subst (λ (x : Bool). HowEndsCompare t' x q u g r e) hf (subst (λ (x : ℕ). HowEndsCompare x f q u g r e) ht h)))))
 
 -- the whole
 pub compared_by : (names : SourceNames) (code : Compiled) (first second : List Entry) (one other : RunSummary) (rows : List ValueDifference) (last count : ℕ) (parted : List ℕ) (r : Comparison)
     → IsSummaryOf code first one → IsSummaryOf code second other → last ≡ min one.time other.time → AreRowsUpTo (design_of code) first second last rows → PartBehind first second count
     → (start : List ℕ) → start ≡ [] → PutsParting names first second count start parted → PutsTold names one other rows parted r.text.items r.same → IsCompared names (design_of code) first second r
 compared_by names code first second one other rows last count parted r left right is_last found part start empty parting told =
-    let like : IsTrue told.same_ends ↔ EndAlike left.effect.state right.effect.state =
-    alike_so told.same_ends one.time left.effect.state.time other.time right.effect.state.time one.finished left.effect.state.finished other.finished right.effect.state.finished
-    one.quiet (is_quiet left.effect.state) other.quiet (is_quiet right.effect.state) left.time left.finished left.quiet right.time right.finished right.quiet told.end_alike in
+    let ends_are : HowRunsEnd left.effect.state right.effect.state told.ends =
+    ends_so told.ends one.time left.effect.state.time other.time right.effect.state.time one.finished left.effect.state.finished other.finished right.effect.state.finished
+    one.quiet (is_quiet left.effect.state) other.quiet (is_quiet right.effect.state) left.time left.finished left.quiet right.time right.finished right.quiet told.ends_are in
     let stop : earlier_end_text one.time other.time ≡ earlier_end_text left.effect.state.time right.effect.state.time =
     ap (λ (n : ℕ). earlier_end_text n other.time) left.time ∙ ap (earlier_end_text left.effect.state.time) right.time in
     let end_is : last ≡ last_compared left.effect.state right.effect.state =
@@ -163,13 +165,13 @@ compared_by names code first second one other rows last count parted r left righ
       is_other_end = right.ending;
       times = found.times;
       are_times = subst (λ (n : ℕ). AreComparedTimes first second n found.times) end_is found.are_times;
-      same_ends = told.same_ends;
-      end_alike = like;
+      ends = told.ends;
+      ends_are = ends_are;
       text_is = told.put
-          ∙ (ap (λ (p : List ℕ). p ++ told.printed ++ ends_text told.same_ends one.ending.items other.ending.items ++ values_text names rows ++ earlier_end_text one.time other.time) parted_is
-          ∙ (ap (λ (l : List ValueDifference). parting.text ++ told.printed ++ ends_text told.same_ends one.ending.items other.ending.items ++ values_text names l ++ earlier_end_text one.time other.time) found.rows_are
-          ∙ ap (λ (s : List ℕ). parting.text ++ told.printed ++ ends_text told.same_ends one.ending.items other.ending.items ++ values_text names (flat_map (rows_at (design_of code) first second) found.times) ++ s) stop));
-      same_is = told.same_is ∙ ap (λ (l : List ValueDifference). told.same_lines && (told.same_ends && not (has_any l))) found.rows_are;
+          ∙ (ap (λ (p : List ℕ). p ++ told.printed ++ ends_text told.ends one.ending.items other.ending.items ++ values_text names rows ++ earlier_end_text one.time other.time) parted_is
+          ∙ (ap (λ (l : List ValueDifference). parting.text ++ told.printed ++ ends_text told.ends one.ending.items other.ending.items ++ values_text names l ++ earlier_end_text one.time other.time) found.rows_are
+          ∙ ap (λ (s : List ℕ). parting.text ++ told.printed ++ ends_text told.ends one.ending.items other.ending.items ++ values_text names (flat_map (rows_at (design_of code) first second) found.times) ++ s) stop));
+      same_is = told.same_is ∙ ap (λ (l : List ValueDifference). told.same_lines && (are_alike told.ends && not (has_any l))) found.rows_are;
     }
 
 -- so on the design of a source

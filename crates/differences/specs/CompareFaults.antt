@@ -27,7 +27,7 @@ abbrev pub IsRunFaultOf : Compiled → List Entry → RunFault → Type 0
 IsRunFaultOf code journal (running.Replay fault) = IsFaultOf code journal fault
 IsRunFaultOf code journal running.Memory = Unit {0}
 
--- why the line of an entry isn't put
+-- why an entry isn't told
 abbrev pub untold : ExplainFault → RunFault
 untold (telling.Read fault) = running.Memory
 untold (telling.Replay fault) = running.Replay fault

@@ -1,5 +1,5 @@
 -- The lines on two journals.
-use Rattle.std.specs.Prelude.{◌≡◌, ℕ, ◌==◌, Bool, true, false, nat_lt, if◌then◌else◌, List, [], ◌∷◌, ◌++◌, length, Some, codes, decimal}
+use Rattle.std.specs.Prelude.{◌≡◌, ℕ, ◌==◌, Bool, true, false, nat_lt, if◌then◌else◌, List, [], ◌∷◌, ◌++◌, length, Option, Some, None, codes, decimal}
 use Rattle.model.specs.declared.entry.Entry.{Entry}
 use Rattle.model.specs.Runs.{has_any}
 use Rattle.explain.specs.declared.phrases.SourceNames.{SourceNames}
@@ -8,7 +8,11 @@ use Rattle.explain.specs.EntryLines.{styled_text}
 use Rattle.explain.specs.Phrases.{register_text}
 use Rattle.verdict.specs.RaceLines.{differing_line_text}
 use Rattle.verdict.specs.VerdictLines.{HaveSameLines, IsFirstDifference}
+use Rattle.differences.specs.declared.ends.EndsCompared.{EndsCompared}
+use Rattle.differences.specs.declared.ends.EndsCompared.TheVariants.{Alike, AtOtherTimes, Different}
+use Rattle.differences.specs.declared.value_difference.GivenValue.{GivenValue}
 use Rattle.differences.specs.declared.value_difference.ValueDifference.{ValueDifference}
+use Rattle.differences.specs.declared.value_difference.ValueGiver.{ValueGiver}
 
 -- what comes behind the entries that two journals have in common, by whether each has more
 abbrev pub title_end : Bool → Bool → List ℕ
@@ -63,16 +67,35 @@ pub record PutsLinesText (one other old new : List ℕ) (same : Bool) : Type 0 w
   pub is_text : IsLinesText one other same text
   pub put : new ≡ old ++ text
 
--- what is said of the ends of two runs, of which each is told in words
-abbrev pub ends_text : Bool → List ℕ → List ℕ → List ℕ
-ends_text true one other = codes "they end alike\n"
-ends_text false one other = codes "they end differently\n  first: " ++ one ++ codes "  second: " ++ other
+-- the ends of two runs, of which each is told in words
+abbrev pub both_ends : List ℕ → List ℕ → List ℕ
+both_ends one other = codes "  first: " ++ one ++ codes "  second: " ++ other
+
+-- what is said of the ends of two runs, by how they compare
+abbrev pub ends_text : EndsCompared → List ℕ → List ℕ → List ℕ
+ends_text Alike one other = codes "they end alike\n"
+ends_text AtOtherTimes one other = codes "they end alike, at other times\n" ++ both_ends one other
+ends_text Different one other = codes "they end differently\n" ++ both_ends one other
+
+-- who changed a register by an entry: a process by its turn, or an update
+abbrev pub done_by_text : Option ℕ → List ℕ
+done_by_text (Some p) = codes ", process " ++ decimal p
+done_by_text None = codes ", update"
+
+-- which entry gave a register its value, if one did
+abbrev pub giver_text : Option ValueGiver → List ℕ
+giver_text (Some g) = codes " (entry " ++ decimal g.entry ++ done_by_text g.process ++ codes ")"
+giver_text None = []
+
+-- a value, and which entry gave it
+abbrev pub given_text : SourceNames → GivenValue → List ℕ
+given_text names v = styled_text names v.value ++ giver_text v.by
 
 -- a register whose values differ
 abbrev pub row_text : SourceNames → ValueDifference → List ℕ
 row_text names d =
-    codes "time " ++ decimal d.time ++ codes "  " ++ register_text names d.register ++ codes "  " ++ styled_text names d.first ++ codes "  "
-    ++ styled_text names d.second ++ codes "\n"
+    codes "time " ++ decimal d.time ++ codes "  " ++ register_text names d.register ++ codes "  " ++ given_text names d.first ++ codes "  "
+    ++ given_text names d.second ++ codes "\n"
 
 -- so all of them
 abbrev pub row_lines : SourceNames → List ValueDifference → List ℕ

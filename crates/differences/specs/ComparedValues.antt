@@ -2,7 +2,6 @@
 use Rattle.std.specs.Prelude.{◌≡◌, ◌⊎◌, ◌↔◌, ℕ, suc, ◌+◌, ◌≤◌, Bool, true, false, nat_le, nat_lt, if◌then◌else◌, List, [], ◌∷◌, take, Option, Some, None}
 use Rattle.std.specs.List.{Contains}
 use Rattle.std.specs.List.Sorted.{IsStrictlyIncreasing}
-use Rattle.logic4.specs.Vector.{Vector}
 use Rattle.logic4.specs.Operators.{same_vector}
 use Rattle.model.specs.declared.entry.Entry.{Entry}
 use Rattle.model.specs.declared.entry.Entry.TheVariants.{Turn, Update, ActivateInactive, ActivateNba, ActivateMonitor, Advance}
@@ -10,6 +9,9 @@ use Rattle.model.specs.Design.{Design}
 use Rattle.model.specs.Expressions.{Store}
 use Rattle.model.specs.Runs.{Effect, run}
 use Rattle.differences.specs.declared.value_difference.ValueDifference.{ValueDifference}
+use Rattle.differences.specs.declared.value_difference.ValueGiver.{ValueGiver}
+use Rattle.differences.specs.declared.value_difference.GivenValue.{GivenValue}
+use Rattle.differences.specs.Givers.{last_giver}
 
 -- whether an entry advances past a time
 abbrev pub goes_past : ℕ → Entry → Bool
@@ -33,6 +35,21 @@ store_left None = []
 -- the values of the registers in the run of a journal when a time passes
 abbrev pub values_when : Design → List Entry → ℕ → Store
 values_when design journal time = store_left (run design (take (count_until time journal) journal))
+
+-- the values of the registers from one number on, each with the entry that gave it
+abbrev pub given_from : (ℕ → Option ValueGiver) → ℕ → Store → List GivenValue
+given_from givers r [] = []
+given_from givers r (v ∷ vs) = record { value = v; by = givers r } ∷ given_from givers (r + 1) vs
+
+-- the values of the registers in the run of a journal when a time passes, each with the entry that gave it
+abbrev pub given_when : Design → List Entry → ℕ → List GivenValue
+given_when design journal time = given_from (λ r. last_giver design journal r (count_until time journal)) 0 (values_when design journal time)
+
+-- values beside the entries that gave them
+abbrev pub given_values : Store → List (Option ValueGiver) → List GivenValue
+given_values [] gs = []
+given_values (v ∷ vs) [] = []
+given_values (v ∷ vs) (g ∷ gs) = record { value = v; by = g } ∷ given_values vs gs
 
 -- a time that ends in a journal: 0, or one that it advances to
 abbrev pub IsTimeIn : List Entry → ℕ → Type 0
@@ -66,11 +83,11 @@ with_difference true d ds = ds
 with_difference false d ds = d ∷ ds
 
 -- the registers from one number on whose values differ at a time
-abbrev pub differing : ℕ → ℕ → List Vector → List Vector → List ValueDifference
+abbrev pub differing : ℕ → ℕ → List GivenValue → List GivenValue → List ValueDifference
 differing time r (one ∷ firsts) (other ∷ seconds) =
-    with_difference (same_vector one other) (record { time = time; register = r; first = one; second = other }) (differing time (r + 1) firsts seconds)
+    with_difference (same_vector one.value other.value) (record { time = time; register = r; first = one; second = other }) (differing time (r + 1) firsts seconds)
 differing time r _ _ = []
 
 -- the registers whose values in the runs of two journals differ when a time passes
 abbrev pub rows_at : Design → List Entry → List Entry → ℕ → List ValueDifference
-rows_at design first second time = differing time 0 (values_when design first time) (values_when design second time)
+rows_at design first second time = differing time 0 (given_when design first time) (given_when design second time)

@@ -1,29 +1,22 @@
 -- What is told of two journals beside each other.
-use Rattle.std.specs.Prelude.{◌≡◌, ◌↔◌, ℕ, ◌&&◌, min, not, Bool, false, List, ◌++◌, length, flat_map, IsTrue, Some, string_bytes}
+use Rattle.std.specs.Prelude.{◌≡◌, ℕ, ◌&&◌, min, not, Bool, List, ◌++◌, length, flat_map, Some, string_bytes}
 use Rattle.model.specs.declared.entry.Entry.{Entry}
 use Rattle.model.specs.Design.{Design}
 use Rattle.model.specs.States.{State}
-use Rattle.model.specs.Runs.{Effect, has_any, is_quiet, run}
+use Rattle.model.specs.Runs.{Effect, has_any, run}
 use Rattle.design.specs.Compiled.{Compiled, design_of}
 use Rattle.locations.specs.SourceLocations.{AreProcesses}
 use Rattle.explain.specs.declared.phrases.SourceNames.{SourceNames}
 use Rattle.explain.specs.EntryLines.{plain_style}
 use Rattle.explain.specs.ExplainedEnd.{IsEndText}
 use Rattle.differences.specs.declared.comparison.Comparison.{Comparison}
+use Rattle.differences.specs.declared.ends.EndsCompared.{EndsCompared}
 use Rattle.differences.specs.declared.summary.RunSummary.{RunSummary}
 use Rattle.differences.specs.declared.value_difference.ValueDifference.{ValueDifference}
 use Rattle.differences.specs.Parting.{PartBehind}
+use Rattle.differences.specs.EndsOfRuns.{HowEndsCompare, HowRunsEnd, are_alike}
 use Rattle.differences.specs.ComparedValues.{AreComparedTimes, rows_at}
 use Rattle.differences.specs.ComparedLines.{IsLinesText, IsPartingText, ends_text, earlier_end_text, values_text}
-
--- Two runs end alike, of each the time, whether it met `$finish`, and whether no event is left: at one time, and both met it or neither;
--- and where they didn't, an event is left in both or in neither.
-abbrev pub AreEndsAlike : ℕ → Bool → Bool → ℕ → Bool → Bool → Type 0
-AreEndsAlike time finished quiet time' finished' quiet' = (time ≡ time') × (finished ≡ finished') × (finished ≡ false → quiet ≡ quiet')
-
--- so two runs that end in these states
-abbrev pub EndAlike : State → State → Type 0
-EndAlike one other = AreEndsAlike one.time one.finished (is_quiet one) other.time other.finished (is_quiet other)
 
 -- the time at which the first of two runs ends
 abbrev pub last_compared : State → State → ℕ
@@ -40,11 +33,11 @@ pub record PutsTold (names : SourceNames) (one other : RunSummary) (rows : List 
   pub same_lines : Bool
   pub printed : List ℕ
   pub is_printed : IsLinesText (string_bytes one.lines) (string_bytes other.lines) same_lines printed
-  pub same_ends : Bool
-  pub end_alike : IsTrue same_ends ↔ AreEndsAlike one.time one.finished one.quiet other.time other.finished other.quiet
+  pub ends : EndsCompared
+  pub ends_are : HowEndsCompare one.time one.finished one.quiet other.time other.finished other.quiet ends
   pub put : new
-      ≡ old ++ printed ++ ends_text same_ends one.ending.items other.ending.items ++ values_text names rows ++ earlier_end_text one.time other.time
-  pub same_is : same ≡ (same_lines && (same_ends && not (has_any rows)))
+      ≡ old ++ printed ++ ends_text ends one.ending.items other.ending.items ++ values_text names rows ++ earlier_end_text one.time other.time
+  pub same_is : same ≡ (same_lines && (are_alike ends && not (has_any rows)))
 
 -- What is told of the two lawful journals, by these names: where they part, in which line they differ first, how they end, and each
 -- register that differs at a time that ends in one of them and isn't past the end of either. They are the same where they print the
@@ -67,12 +60,12 @@ pub record IsCompared (names : SourceNames) (design : Design) (first second : Li
   pub is_other_end : IsEndText other.state (length second) other_end
   pub times : List ℕ
   pub are_times : AreComparedTimes first second (last_compared one.state other.state) times
-  pub same_ends : Bool
-  pub end_alike : IsTrue same_ends ↔ EndAlike one.state other.state
+  pub ends : EndsCompared
+  pub ends_are : HowRunsEnd one.state other.state ends
   pub text_is : r.text.items
-      ≡ parting ++ printed ++ ends_text same_ends one_end other_end ++ values_text names (flat_map (rows_at design first second) times)
+      ≡ parting ++ printed ++ ends_text ends one_end other_end ++ values_text names (flat_map (rows_at design first second) times)
       ++ earlier_end_text one.state.time other.state.time
-  pub same_is : r.same ≡ (same_lines && (same_ends && not (has_any (flat_map (rows_at design first second) times))))
+  pub same_is : r.same ≡ (same_lines && (are_alike ends && not (has_any (flat_map (rows_at design first second) times))))
 
 -- so they are compared on the design of a source, whose registers and processes name them
 pub record IsComparison (source : List ℕ) (code : Compiled) (first second : List Entry) (r : Comparison) : Type 0 where

@@ -1,7 +1,9 @@
 pub mod CompareFaults
 pub mod Parting
 pub mod Summaries
+pub mod Givers
 pub mod ComparedValues
 pub mod Following
+pub mod EndsOfRuns
 pub mod ComparedLines
 pub mod Comparisons

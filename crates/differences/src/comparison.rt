@@ -1,11 +1,12 @@
 //! Two journals, compared.
 
-ghost use Rattle.std.specs.Prelude.{◌≡◌, ◌↔◌, IfErr, IfOk, IsTrue, OnOk};
+ghost use Rattle.std.specs.Prelude.{IfErr, IfOk, OnOk};
 ghost use Rattle.differences.specs.CompareFaults.{IsCompareFaultOf, IsRunFaultOf};
 ghost use Rattle.differences.specs.ComparedLines.{PutsParting, PutsSide};
-ghost use Rattle.differences.specs.Comparisons.{AreEndsAlike, AreRowsUpTo, IsCompared, IsComparison, PutsTold};
+ghost use Rattle.differences.specs.Comparisons.{AreRowsUpTo, IsCompared, IsComparison, PutsTold};
 ghost use Rattle.design.specs.Compiled.{design_of};
 
+use crate::ends::compare_ends;
 use crate::fault::{CompareFault, JournalSide, RunFault};
 use crate::following::differing_values;
 use crate::lines::{push_ends, push_lines, push_stop, push_title, push_values};
@@ -76,29 +77,6 @@ fn push_parting(
     }
 }
 
-// Whether both or neither.
-fn are_same(one: bool, other: bool) -> bool
-    ensures { IsTrue result ↔ (one ≡ other) }
-{
-    one == other
-}
-
-// Whether two runs end alike.
-fn end_alike(one: &RunSummary, other: &RunSummary) -> bool
-    ensures { IsTrue result ↔ AreEndsAlike one.now.time one.now.finished one.now.quiet other.now.time other.now.finished other.now.quiet }
-{
-    if one.time != other.time {
-        return false;
-    }
-    if !are_same(one.finished, other.finished) {
-        return false;
-    }
-    if one.finished {
-        return true;
-    }
-    are_same(one.quiet, other.quiet)
-}
-
 // The registers that differ at the times that end in one of two journals and aren't past the end of either run.
 fn rows_between(
     alloc: Global,
@@ -125,11 +103,11 @@ fn push_told(
     ensures { IfOk result (PutsTold names.entry.now one.now other.now rows.now text.old.items text.new.items) }
 {
     let same_lines = push_lines(text, one.lines.as_bytes(), other.lines.as_bytes())?;
-    let alike = end_alike(one, other);
-    push_ends(text, alike, one, other)?;
+    let ends = compare_ends(one, other);
+    push_ends(text, ends, one, other)?;
     push_values(text, names, rows)?;
     push_stop(text, one.time, other.time)?;
-    Ok(same_lines & (alike & !has_any(rows)))
+    Ok(same_lines & (ends.are_alike() & !has_any(rows)))
 }
 
 // Compares two journals by names.

@@ -43,7 +43,7 @@ pub(crate) enum RunFault {
 }
 
 impl RunFault {
-    /// Why the line of an entry isn't put. No text of a journal is read for it.
+    /// Why an entry isn't told. No text of a journal is read for it.
     pub(crate) fn untold(fault: ExplainFault) -> RunFault
         ensures { result ≡ untold fault }
     {

@@ -1,10 +1,11 @@
 //! The lines on two journals.
 
-ghost use Rattle.std.specs.Prelude.{◌≡◌, ◌++◌, IfOk, OnOk};
-ghost use Rattle.differences.specs.ComparedLines.{PutsLinesText, different_text, ends_text, row_lines, row_text, stop_head, earlier_end_text, title_end, parting_title_text, values_text, values_title};
+ghost use Rattle.std.specs.Prelude.{◌≡◌, ◌++◌, IfOk, OnOk, Some};
+ghost use Rattle.differences.specs.ComparedLines.{PutsLinesText, both_ends, different_text, done_by_text, ends_text, given_text, giver_text, row_lines, row_text, stop_head, earlier_end_text, title_end, parting_title_text, values_text, values_title};
 
+use crate::ends::EndsCompared;
 use crate::summary::RunSummary;
-use crate::value_difference::ValueDifference;
+use crate::value_difference::{GivenValue, ValueDifference, ValueGiver};
 use explain::{SourceNames, has_any, push_labelled, push_register};
 use literals::push_value;
 use std::alloc::AllocError;
@@ -65,22 +66,79 @@ pub(crate) fn push_lines(
     }
 }
 
-/// Puts what is said of the ends of two runs behind a text, of which each is told in words.
-pub(crate) fn push_ends(
+// Puts a title behind a text, and the ends of two runs, of which each is told in words.
+fn push_both_ends(
     text: &mut Vec<u8>,
-    alike: bool,
+    title: &[u8],
     one: &RunSummary,
     other: &RunSummary,
 ) -> Result<(), AllocError>
-    ensures { OnOk result (text.new.items ≡ text.old.items ++ ends_text alike one.now.ending.items other.now.ending.items) }
+    ensures { OnOk result (text.new.items ≡ text.old.items ++ (title.now ++ both_ends one.now.ending.items other.now.ending.items)) }
 {
-    if alike {
-        return text.extend_from_slice(b"they end alike\n");
-    }
-    text.extend_from_slice(b"they end differently\n  first: ")?;
+    text.extend_from_slice(title)?;
+    text.extend_from_slice(b"  first: ")?;
     text.extend_from_slice(one.ending.as_slice())?;
     text.extend_from_slice(b"  second: ")?;
     text.extend_from_slice(other.ending.as_slice())
+}
+
+/// Puts what is said of the ends of two runs behind a text, by how they compare.
+pub(crate) fn push_ends(
+    text: &mut Vec<u8>,
+    ends: EndsCompared,
+    one: &RunSummary,
+    other: &RunSummary,
+) -> Result<(), AllocError>
+    ensures { OnOk result (text.new.items ≡ text.old.items ++ ends_text ends one.now.ending.items other.now.ending.items) }
+{
+    match ends {
+        EndsCompared::Alike => text.extend_from_slice(b"they end alike\n"),
+        EndsCompared::AtOtherTimes => {
+            push_both_ends(text, b"they end alike, at other times\n", one, other)
+        }
+        EndsCompared::Different => push_both_ends(text, b"they end differently\n", one, other),
+    }
+}
+
+// Puts behind a text who changed a register by an entry: a process by its turn, or an update.
+fn push_done_by(text: &mut Vec<u8>, process: Option<u32>) -> Result<(), AllocError>
+    ensures { OnOk result (text.new.items ≡ text.old.items ++ done_by_text process) }
+{
+    match process {
+        Some(process) => push_labelled(text, b", process ", u64::from(process)),
+        None => text.extend_from_slice(b", update"),
+    }
+}
+
+// Puts the entry that gave a register its value behind a text, in parentheses.
+fn push_entry_of(text: &mut Vec<u8>, giver: ValueGiver) -> Result<(), AllocError>
+    ensures { OnOk result (text.new.items ≡ text.old.items ++ giver_text (Some giver)) }
+{
+    push_labelled(text, b" (entry ", giver.entry)?;
+    push_done_by(text, giver.process)?;
+    text.extend_from_slice(b")")
+}
+
+// Puts the entry that gave a register its value behind a text, if one did.
+fn push_giver(text: &mut Vec<u8>, giver: Option<ValueGiver>) -> Result<(), AllocError>
+    ensures { OnOk result (text.new.items ≡ text.old.items ++ giver_text giver) }
+{
+    match giver {
+        Some(giver) => push_entry_of(text, giver),
+        None => Ok(()),
+    }
+}
+
+// Puts a value behind a text, and the entry that gave it.
+fn push_given(
+    text: &mut Vec<u8>,
+    names: &SourceNames<'_>,
+    given: GivenValue,
+) -> Result<(), AllocError>
+    ensures { OnOk result (text.new.items ≡ text.old.items ++ given_text names.entry.now given) }
+{
+    push_value(text, names.style.radix, given.value)?;
+    push_giver(text, given.by)
 }
 
 // Puts the line of a register whose values differ behind a text.
@@ -95,9 +153,9 @@ fn push_row(
     text.extend_from_slice(b"  ")?;
     push_register(text, names, row.register)?;
     text.extend_from_slice(b"  ")?;
-    push_value(text, names.style.radix, row.first)?;
+    push_given(text, names, row.first)?;
     text.extend_from_slice(b"  ")?;
-    push_value(text, names.style.radix, row.second)?;
+    push_given(text, names, row.second)?;
     text.extend_from_slice(b"\n")
 }
 

@@ -26,10 +26,13 @@ const UPDATES: u16 = 10_000;
 const BEFORE: u64 = 2;
 
 // How often each register is read in one holding of the lock.
-const READS: u32 = 1_000;
+const READS: u32 = 100;
 
-// How many holdings are looked at, and how many more there may be, since a thread may begin to look too late.
-const HOLDINGS: u32 = 100;
+// In how many holdings they are read so, and how many holdings there may be for that, since a thread may begin to look too late. Where there was no
+// such holding among the first ones, no more are made.
+const HOLDINGS: u32 = 10;
+
+const FIRST_HOLDINGS: u32 = 100;
 
 const MOST_HOLDINGS: u32 = 1_000;
 
@@ -204,7 +207,7 @@ fn registers_are_read_while_the_lock_is_held(rt: HostRuntime) {
         }
         holds(
             &rt,
-            read > 0 || count < HOLDINGS,
+            read > 0 || count < FIRST_HOLDINGS,
             "no reading of a held gate",
         );
     }

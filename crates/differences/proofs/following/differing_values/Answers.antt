@@ -8,7 +8,7 @@ use Rattle.differences.proofs.following.differing_values.Goals as goal
 
 pub follow_beside-rows-requires-clause-one : goal.follow_beside-rows-requires-clause-one
 follow_beside-rows-requires-clause-one c =
-    followed_none c.args.design.now c.args.first.now c.args.times.now c.in-Ok.machine c.in-Ok.ensures.code c.in-Ok.ensures.state c.in-Ok.ensures.lines c.in-Ok.ensures.entries
+    followed_none c.args.first.now c.args.times.now c.in-Ok.one (c.in-Ok.ensures.followed c.args.first.now) c.in-Ok.ensures.entries
 
 pub returns-clause-fault : goal.returns-clause-fault
 returns-clause-fault c =

@@ -4,7 +4,7 @@ use Rattle.std.specs.Prelude.{flat_map}
 use Rattle.std.proofs.Math.Seq.{take-length}
 use Rattle.design.specs.Compiled.{design_of}
 use Rattle.differences.specs.ComparedValues.{rows_at}
-use Rattle.differences.proofs.Follow.{rows_next, since_next, values_there}
+use Rattle.differences.proofs.Follow.{given_there, rows_next, since_next}
 use Rattle.differences.proofs.following.follow.Goals as goal
 
 pub loop-place-init : goal.loop-place-init
@@ -25,17 +25,17 @@ loop-place-preserved c =
       other_code = passed.other.code ∙ before.other_code;
       one = since_next c.args.runs.first.now c.args.runs.times.now c.loop-place.place _ c.loop-place.one c.compare_at.new.one (omega arith) c.requires.rising before.one passed.one;
       other = since_next c.args.runs.second.now c.args.runs.times.now c.loop-place.place _ c.loop-place.other c.compare_at.new.other (omega arith) c.requires.rising before.other passed.other;
-      rows = rows_next (design_of c.args.one.now.code) c.args.runs.first.now c.args.runs.second.now c.args.runs.times.now c.loop-place.place _ c.loop-place.rows.items c.compare_at.new.rows.items _ _ (omega arith)
-          before.rows passed.rows
-          (values_there c.args.runs.first.now c.args.runs.times.now c.loop-place.place _ c.loop-place.one c.compare_at.new.one (omega arith) c.requires.rising before.one passed.one c.args.one.now.code
-          (passed.one.code ∙ before.one_code))
-          (values_there c.args.runs.second.now c.args.runs.times.now c.loop-place.place _ c.loop-place.other c.compare_at.new.other (omega arith) c.requires.rising before.other passed.other c.args.one.now.code
-          (passed.other.code ∙ before.other_code));
+      rows = rows_next (design_of c.args.one.now.explainer.position.code) c.args.runs.first.now c.args.runs.second.now c.args.runs.times.now c.loop-place.place _ c.loop-place.rows.items c.compare_at.new.rows.items _ _
+          (omega arith) before.rows passed.rows
+          (given_there c.args.runs.first.now c.args.runs.times.now c.loop-place.place _ c.loop-place.one c.compare_at.new.one (omega arith) c.requires.rising before.one passed.one
+          c.args.one.now.explainer.position.code (passed.one.code ∙ before.one_code) passed.one_registers)
+          (given_there c.args.runs.second.now c.args.runs.times.now c.loop-place.place _ c.loop-place.other c.compare_at.new.other (omega arith) c.requires.rising before.other passed.other
+          c.args.one.now.explainer.position.code (passed.other.code ∙ before.other_code) passed.other_registers);
     }
 
 pub returns-clause-rows : goal.returns-clause-rows
 returns-clause-rows c =
     let ended : c.loop-place.place ≡ length c.args.runs.times.now = omega arith in
     c.loop-place.invariant.rows
-    ∙ ap (λ (l : List ℕ). flat_map (rows_at (design_of c.args.one.now.code) c.args.runs.first.now c.args.runs.second.now) l)
+    ∙ ap (λ (l : List ℕ). flat_map (rows_at (design_of c.args.one.now.explainer.position.code) c.args.runs.first.now c.args.runs.second.now) l)
     (ap (λ (n : ℕ). take n c.args.runs.times.now) ended ∙ take-length c.args.runs.times.now)

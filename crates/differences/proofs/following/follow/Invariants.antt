@@ -8,9 +8,9 @@ use Rattle.differences.proofs.following.follow.Given as goal
 
 abbrev pub invariant-loop-place : goal.invariant-loop-place
 invariant-loop-place l = record {
-  one_code : l.one.code ≡ l.fn.one.code;
-  other_code : l.other.code ≡ l.fn.one.code;
+  one_code : l.one.explainer.position.code ≡ l.fn.one.explainer.position.code;
+  other_code : l.other.explainer.position.code ≡ l.fn.one.explainer.position.code;
   one : IsFollowedSince l.runs.first.now l.runs.times.now l.place l.one;
   other : IsFollowedSince l.runs.second.now l.runs.times.now l.place l.other;
-  rows : l.rows.items ≡ flat_map (rows_at (design_of l.fn.one.code) l.runs.first.now l.runs.second.now) (take l.place l.runs.times.now);
+  rows : l.rows.items ≡ flat_map (rows_at (design_of l.fn.one.explainer.position.code) l.runs.first.now l.runs.second.now) (take l.place l.runs.times.now);
 }
