@@ -1,6 +1,7 @@
 -- The ways from a node with the lines of each time in order are those of a search of such runs.
 use Rattle.std.proofs.Common.{◌≡◌, ◌⊎◌, ℕ, List, [], ◌∷◌, ◌++◌, Some, inl, inr, refl, sym, ap, ◌∙◌, subst}
 use Rattle.std.specs.List.{All, Any}
+use Rattle.model.specs.declared.end.End.{End}
 use Rattle.model.specs.declared.end.Limits.{Limits}
 use Rattle.design.specs.Compiled.{Compiled, design_of}
 use Rattle.design.specs.DesignInvariant.{controls_of}
@@ -39,6 +40,10 @@ pub rest_reads : (registers : ℕ) (t : ReadText) (after : TextTail) (done rest 
     → rest ≡ whole_text registers (read_on registers (tail_of t) seen)
 rest_reads registers t after done rest given seen same is whole =
     whole ∙ (ap (λ (u : ReadText). whole_text registers (read_on registers (tail_of u) given)) same ∙ ap (λ l. whole_text registers (read_on registers (tail_of t) l)) is)
+
+-- an end with what is seen at it, where both are other ones
+pub end_with : (a b : End) (xs ys : List ℕ) → a ≡ b → xs ≡ ys → ◌≡◌ {A = SeenEnd} (record { end = a; seen = xs }) (record { end = b; seen = ys })
+end_with a b xs ys same is = ap (λ (e : End). record { end = e; seen = xs }) same ∙ ap (λ (l : List ℕ). record { end = b; seen = l }) is
 
 -- another node with the same machine stands at an observed run, too
 pub same_machine_stands : (class : ℕ → ℕ) (code : Compiled) (limits : Limits) (observe : Observer) (node other : LooseNode) (run : List LooseTransition) → other.machine.value ≡ node.machine.value

@@ -19,7 +19,7 @@ use Rattle.looseruns.specs.ObservedMoves.{SeesAlike, StaysInTime, seen_at_move}
 use Rattle.looseruns.specs.ObservedRuns.{StandsObserved}
 use Rattle.looseruns.proofs.RunsOfMoves.{timely_moves_before, timely_moves_after}
 use Rattle.looseruns.proofs.ObservedGoing.{leads_on_observed, loose_way_is_observed, no_observed_move_stays, observed_ways_go_on}
-use Rattle.looseruns.proofs.ObservedParts.{observed_of_more, observed_run_in_order, observed_text_is}
+use Rattle.looseruns.proofs.ObservedParts.{move_unseen, observed_of_more, observed_run_in_order, observed_text_is}
 use Rattle.observers.specs.declared.observing.Observing.{Observing}
 use Rattle.observers.specs.Observers.{observer_of}
 use Rattle.observers.proofs.SeeingAlike.{observers_see_alike}

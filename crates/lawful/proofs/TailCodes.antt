@@ -1,5 +1,5 @@
 -- Codes that are put bit by bit.
-use Rattle.std.proofs.Common.{◌≡◌, ◌∙◌, ap, sym, subst, ℕ, zero, suc, ◌-◌, ◌<◌, ◌≤◌, List, [], ◌∷◌, ◌++◌, length, append_assoc, Result, Ok, Err, OnOk, is_ok, arith}
+use Rattle.std.proofs.Common.{◌≡◌, ◌∙◌, ap, sym, subst, ℕ, zero, suc, ◌-◌, ◌<◌, ◌≤◌, List, [], ◌∷◌, ◌++◌, length, append_assoc, Option, None, MatchOption, Result, Ok, Err, OnOk, is_ok, arith}
 use Rattle.std.specs.Prelude.{if◌then◌else◌}
 use Rattle.regions.specs.Machine.{MachineView}
 use Rattle.statekeys.specs.ClassKeys.{IsClassKey}
@@ -7,11 +7,14 @@ use Rattle.wavetexts.specs.Reading.{ReadText}
 use Rattle.lawful.specs.ArrangedNodes.{IsTailKey, bytes_code, number_code, tail_at, tail_code}
 use Rattle.lawful.specs.declared.node.LooseNode.{LooseNode}
 
+one_less : (n : ℕ) → suc n - 1 ≡ n
+one_less n = omega arith
+
 -- one of a number more
 pub number_more : (bytes more whole : List ℕ) (n : ℕ) → 0 < n → more ≡ bytes ++ 1 ∷ [] → bytes ++ number_code n ≡ whole → more ++ number_code (n - 1) ≡ whole
 number_more bytes more whole zero some longer before = absurd (omega (arith, some))
 number_more bytes more whole (suc n) some longer before =
-    ap (λ l. l ++ number_code n) longer ∙ (append_assoc bytes (1 ∷ []) (number_code n) ∙ before)
+    ap (λ k. more ++ number_code k) (one_less n) ∙ (ap (λ l. l ++ number_code n) longer ∙ (append_assoc bytes (1 ∷ []) (number_code n) ∙ before))
 
 -- and its end
 pub number_done : (bytes last whole : List ℕ) (n : ℕ) → n ≤ 0 → last ≡ bytes ++ 0 ∷ [] → bytes ++ number_code n ≡ whole → last ≡ whole
@@ -22,6 +25,10 @@ number_done bytes last whole (suc n) none longer before = absurd (omega (arith, 
 pub bytes_more : (bytes more whole rest : List ℕ) (b : ℕ) (text : List ℕ) → text ≡ b ∷ rest → more ≡ bytes ++ 1 ∷ b ∷ [] → bytes ++ bytes_code text ≡ whole → more ++ bytes_code rest ≡ whole
 bytes_more bytes more whole rest b text is longer before =
     ap (λ l. l ++ bytes_code rest) longer ∙ (append_assoc bytes (1 ∷ b ∷ []) (bytes_code rest) ∙ (sym (ap (λ l. bytes ++ bytes_code l) is) ∙ before))
+
+-- what is so where there is none
+pub if_none : {A : Type 0} (o : Option A) (P : Type 0) (Q : A → Type 0) → MatchOption o P Q → o ≡ None → P
+if_none o P Q h is = subst (λ x. MatchOption x P Q) is h
 
 -- and their end
 pub bytes_done : (bytes last whole text : List ℕ) → length text ≡ 0 → last ≡ bytes ++ 0 ∷ [] → bytes ++ bytes_code text ≡ whole → last ≡ whole

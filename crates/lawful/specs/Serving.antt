@@ -64,7 +64,7 @@ abbrev behind_byte : List ℕ → List ℕ
 behind_byte [] = []
 behind_byte (b ∷ bytes) = bytes
 
-no_such_code : {X : Type 0} → 0 ≡ 1 → X
+no_such_code : {X : Type 0} → ◌≡◌ {A = ℕ} 0 1 → X
 no_such_code e = absurd (omega (arith, e))
 
 number_ends : (m n : ℕ) (xs ys : List ℕ) → number_code m ++ xs ≡ number_code n ++ ys → (m ≡ n) × (xs ≡ ys)
