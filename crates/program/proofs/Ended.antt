@@ -1,5 +1,5 @@
 -- What the requests of the words, the files and the statuses tell of a command that ended.
-use Rattle.std.proofs.Common.{◌≡◌, ◌≢◌, ◌⊎◌, ◌==◌, ◌||◌, Bool, true, false, string_bytes, ◌++◌, ◌∙◌, ap, append_assoc, sym, subst, inl, inr, refl, ℕ, List, Option, Some, None, IfOk, IfErr, OnOk, OnErr, Result, Ok, Err, map, option_map, codes, drop, arith}
+use Rattle.std.proofs.Common.{◌≡◌, ◌≢◌, ◌⊎◌, Bool, true, false, string_bytes, ◌++◌, ◌∙◌, ap, append_assoc, sym, subst, inl, inr, refl, ℕ, List, Option, Some, None, IfOk, IfErr, OnOk, OnErr, Result, Ok, Err, option_map, codes, drop, arith}
 use Rattle.std.specs.Io.KnownBytes.{Appends, Keeps}
 use Rattle.model.specs.declared.entry.Entry.{Entry}
 use Rattle.arguments.specs.declared.run_options.RunOptions.{RunOptions}
@@ -247,23 +247,6 @@ refused_wrong words no_request.Memory n is status e = absurd (clash (sym status 
   where
     clash : ◌≡◌ {A = ℕ} 6 2 → ⊥
     clash q = cc
-
--- a status that comes with none of these
-abbrev pub is_no_request_status : ℕ → Bool
-is_no_request_status n = n == 0 || (n == 1 || (n == 2 || n == 6))
-
-wrong_one : (b : Bool) → b ≡ true → b ≡ false → ⊥
-wrong_one true h e = cc
-wrong_one false h e = cc
-
-no_request_has : (r : NoRequest) (n : ℕ) → IsNoRequestStatus r n → is_no_request_status n ≡ true
-no_request_has (no_request.Help text) n (inl e) = ap is_no_request_status e
-no_request_has (no_request.Help text) n (inr e) = ap is_no_request_status e
-no_request_has (no_request.Usage text) n e = ap is_no_request_status e
-no_request_has no_request.Memory n e = ap is_no_request_status e
-
-pub not_of_no_request : (r : NoRequest) (n k : ℕ) → IsNoRequestStatus r n → is_no_request_status k ≡ false → n ≡ k → ⊥
-not_of_no_request r n k is h e = wrong_one (is_no_request_status k) (subst (λ (m : ℕ). is_no_request_status m ≡ true) e (no_request_has r n is)) h
 
 -- what a status tells of how a command ended
 
