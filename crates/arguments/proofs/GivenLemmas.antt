@@ -5,9 +5,9 @@ use Rattle.std.specs.Str.{bytes_eq}
 use Rattle.std.specs.Prelude.{slice_get, unwrap_or, codes, IfOk, IfErr, Result, Ok, Err}
 use Rattle.std.specs.Borrow.{Bor}
 use Rattle.std.proofs.lemmas.Slice.Eq.{bytes_eq-Decides}
-use Rattle.std.proofs.lemmas.List.Elements.{All-get_or, All-nil}
+use Rattle.std.proofs.lemmas.List.Elements.{All-get_or}
 use Rattle.clap.specs.Facts.{args_of, groups_of, Entry, EntryPasses, PassesArg, HasReading, parser_of, parser_of_value}
-use Rattle.clap.specs.Built.{IsPlainArg, IsParsedFrom, IsAuto, AddsArg, SameRules}
+use Rattle.clap.specs.Built.{IsParsedFrom, IsAuto, AddsArg, SameRules}
 use Rattle.clap.specs.Matches.{matched_of, first_value, found_of}
 use Rattle.clap.specs.Values.{Accepts, reading_of}
 use Rattle.clap.proofs.CallerLemmas.{entry_by_id, same_rules_by_id, required_has_value, added_plain}
@@ -15,7 +15,6 @@ use Rattle.clap.specs.Words.{kind_of}
 use Rattle.clap.specs.declared.builder.action.ArgAction.TheVariants.{Set}
 use Rattle.clap.specs.declared.builder.arg.Arg.{Arg}
 use Rattle.clap.specs.declared.builder.command.Command.{Command}
-use Rattle.clap.specs.declared.builder.command.Command.TheViews.{out-Command}
 use Rattle.clap.specs.declared.builder.value_parser.ValueParser.{ValueParser}
 use Rattle.clap.specs.declared.error.Error.{Error}
 use Rattle.clap.specs.declared.error.kind.ErrorKind.{ErrorKind}
@@ -58,16 +57,6 @@ follow_push [] [] y r f t = (t, f)
 follow_push [] (s ∷ rs) y r f t = absurd f
 follow_push (x ∷ xs) [] y r f t = absurd f
 follow_push (x ∷ xs) (s ∷ rs) y r f t = (f.0, follow_push xs rs y r f.1 t)
-
--- a command with no argument yet
-pub none_yet : (c : Command) → args_of c ≡ [] → groups_of c ≡ [] → (out-Command c).has_globals ≡ false
-    → (out-Command c).subcommand_negates_reqs ≡ false → HasRules c []
-none_yet c args groups local negates = record {
-  args = subst (λ xs. Follow xs []) (sym args) tt;
-  plain = (subst (All IsPlainArg) (sym args) (All-nil IsPlainArg), groups);
-  local = local;
-  negates = negates;
-}
 
 -- and with one more
 pub one_more : (c d : Command) (a : Arg) (rs : List Rule) (r : Rule) → HasRules c rs → FollowsRule a r → AddsArg c a d

@@ -17,7 +17,7 @@ use Rattle.clap.specs.declared.parser.matches.ArgMatches.{ArgMatches}
 use Rattle.arguments.specs.declared.request.NoRequest.{NoRequest}
 use Rattle.arguments.specs.declared.request.NoRequest.TheVariants as no_request
 use Rattle.arguments.specs.Arguments.{IsGivenArgument, flag_parser}
-use Rattle.arguments.specs.CommandWords.{flag_given, number_given, AsksNoTask, Begins, FailsAs, IsNoRequest, IsNoRequestBy, MayFail, of_run, of_two_orders, of_replay, of_races, of_nothing_observed, of_samples, of_check, of_explain, of_no_telling, of_waves, of_diff, of_others, has_two_orders, other_faults, check_app, check_faults, explain_app, explain_faults, explain_rows, TellsNothing, races_app, races_faults, races_rows, replay_app, replay_faults, run_app, run_faults, run_rows, waves_app, waves_faults, diff_app, diff_faults, whole_app}
+use Rattle.arguments.specs.CommandWords.{flag_given, number_given, Begins, FailsAs, IsNoRequest, IsNoRequestBy, MayFail, of_run, of_two_orders, of_replay, of_races, of_nothing_observed, of_samples, of_check, of_explain, of_no_telling, of_waves, of_diff, has_two_orders, other_faults, check_app, check_faults, explain_app, explain_faults, explain_rows, TellsNothing, races_app, races_faults, races_rows, replay_app, replay_faults, run_app, run_faults, run_rows, waves_app, waves_faults, diff_app, diff_faults, whole_app}
 
 whole_is_free : is_simple_and_free whole_app ≡ true
 unfolding whole_app run_app replay_app races_app check_app explain_app waves_app diff_app
@@ -126,15 +126,6 @@ pub no_telling_fails : (words own : List Text) (rows : List Row) (e : Error) →
 no_telling_fails words own rows e begins same found none (inl h) = inl h
 no_telling_fails words own rows e begins same found none (inr h) =
     inr (of_no_telling begins (subst TellsNothing (found ∙ ap explain_rows same) none) h)
-
-pub others_fail : (words : List Text) (e : Error) → AsksNoTask words → HasKind (other_faults words) e → FailsAs words (kind_of e)
-others_fail words e none (inl h) = inl h
-others_fail words e none (inr h) = inr (of_others none h)
-
-pub missing_fails : (words : List Text) (e : Error) → AsksNoTask words → IsAmong MissingSubcommand (other_faults words)
-    → (kind_of e ≡ OutOfMemory) ⊎ (kind_of e ≡ MissingSubcommand) → FailsAs words (kind_of e)
-missing_fails words e none among (inl h) = inl h
-missing_fails words e none among (inr h) = inr (of_others none (subst (λ (k : ErrorKind). IsAmong k (other_faults words)) (sym h) among))
 
 pub refused : (words : List Text) (kind : ErrorKind) (r : NoRequest) → FailsAs words kind → IsNoRequestBy kind r → IsNoRequest words r
 refused words kind (no_request.Help text) (inl h) (inl by) = elim_kind (sym h ∙ by)

@@ -26,18 +26,6 @@ behind_first code limits journal first (Ok (Some cause)) is_run is parts = recor
 behind_first code limits journal first (Ok None) is_run is parts = tt
 behind_first code limits journal first (Err e) is_run is parts = tt
 
--- the same races, of which a bound cuts the list only where it is met
-pub with_cut : (code : Compiled) (limits : Limits) (bounds : RaceBounds) (found : Found) (c d : Causes) → AreCauses code limits bounds found c → d.causes.items ≡ c.causes.items
-    → (d.cut ≡ Some Races → length (numbered_causes d.causes.items) ≡ bounds.races) → (d.cut ≡ Some Pairs → d.runs ≡ 0) → AreCauses code limits bounds found d
-with_cut code limits bounds found c d are same races pairs = record {
-  shown = subst (λ (xs : List PartingRace). All (IsShownCause code limits) xs) (sym same) are.shown;
-  distinct = subst (λ (xs : List PartingRace). AllPairs AreOtherCauses xs) (sym same) are.distinct;
-  beside = subst (λ (xs : List PartingRace). All (λ cause. All (λ race. AreOthers race cause.race) found.races.items) xs) (sym same) are.beside;
-  few = subst (λ (xs : List PartingRace). length (numbered_causes xs) ≤ bounds.races) (sym same) are.few;
-  full_races = races;
-  full_tries = pairs;
-}
-
 few_more : (b : Bool) (xs : List PartingRace) (x : PartingRace) (most : ℕ) → length (numbered_causes xs) ≤ most → length (numbered_causes (xs ++ x ∷ [])) ≤ most → length (numbered_causes (if b then xs ++ x ∷ [] else xs)) ≤ most
 few_more true xs x most few more = more
 few_more false xs x most few more = few

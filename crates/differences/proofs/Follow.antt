@@ -1,5 +1,5 @@
 -- Runs that are followed from time to time.
-use Rattle.std.proofs.Common.{◌≡◌, ◌∙◌, ap, sym, refl, subst, ℕ, zero, suc, ◌+◌, ◌<◌, ◌≤◌, Bool, true, false, List, [], ◌∷◌, ◌++◌, length, take, drop, if◌then◌else◌, append-nil, drop-cons, Some, arith}
+use Rattle.std.proofs.Common.{◌≡◌, ◌∙◌, ap, sym, refl, subst, ℕ, suc, ◌+◌, ◌<◌, ◌≤◌, Bool, true, false, List, [], ◌∷◌, ◌++◌, length, take, drop, if◌then◌else◌, append-nil, Some, arith}
 use Rattle.std.specs.Prelude.{flat_map, slice_index, slice_index_or}
 use Rattle.std.specs.List.Sorted.{IsStrictlyIncreasing}
 use Rattle.std.proofs.lemmas.Bool.{ltb-true, ltb-false}
@@ -47,34 +47,6 @@ further_by t u e es false false le h k rest =
 pub further : (t u : ℕ) (es : List Entry) → t ≤ u → count_until u es ≡ count_until t es + count_until u (drop (count_until t es) es)
 further t u [] le = omega arith
 further t u (e ∷ es) le = further_by t u e es (goes_past t e) (goes_past u e) le refl refl (further t u es le)
-
--- the entry at a place, and those behind it
-
-opened : (es : List Entry) (at : ℕ) (d : Entry) → at < length es → drop at es ≡ slice_index_or es at d ∷ drop (at + 1) es
-opened es at d inside =
-    let next : suc at ≡ at + 1 = omega arith in
-    drop-cons es at d inside ∙ ap (λ (n : ℕ). slice_index_or es at d ∷ drop n es) next
-
-pub until_here : (t : ℕ) (es : List Entry) (at : ℕ) (d : Entry) → at < length es → goes_past t (slice_index_or es at d) ≡ true → count_until t (drop at es) ≡ 0
-until_here t es at d inside past = ap (count_until t) (opened es at d inside) ∙ counted t (slice_index_or es at d) (drop (at + 1) es) true past
-
-pub until_next : (t : ℕ) (es : List Entry) (at : ℕ) (d : Entry) → at < length es → goes_past t (slice_index_or es at d) ≡ false
-    → (at + 1) + count_until t (drop (at + 1) es) ≡ at + count_until t (drop at es)
-until_next t es at d inside past =
-    let here : count_until t (drop at es) ≡ suc (count_until t (drop (at + 1) es)) =
-    ap (count_until t) (opened es at d inside) ∙ counted t (slice_index_or es at d) (drop (at + 1) es) false past in
-    omega (arith, here)
-
-pub until_end : (t : ℕ) (es : List Entry) (at : ℕ) → length es ≤ at → count_until t (drop at es) ≡ 0
-until_end t [] zero h = refl
-until_end t [] (suc at) h = refl
-until_end t (e ∷ es) zero h = absurd (omega (arith, h))
-until_end t (e ∷ es) (suc at) h = until_end t es at (omega (arith, h))
-
--- where the entries up to a time are taken
-pub passed : (journal : List Entry) (t at from count : ℕ) → count ≡ at → at + count_until t (drop at journal) ≡ from + count_until t (drop from journal)
-    → count_until t (drop at journal) ≡ 0 → count ≡ from + count_until t (drop from journal)
-passed journal t at from count is h none = omega (arith, is, h, none)
 
 -- at the start each time is ahead
 pub followed_none : (journal : List Entry) (times : List ℕ) (run : FollowedRun) → IsRunFollowed journal run → run.explainer.position.core.entries ≡ 0 → IsFollowedSince journal times 0 run

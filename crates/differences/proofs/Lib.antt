@@ -1,5 +1,4 @@
--- Lemmas of where two journals part, of the times of two runs, of who gave a register its value, of runs that are followed, and of what is told of them.
-pub mod Partings
+-- Lemmas of the times of two runs, of who gave a register its value, of runs that are followed, and of what is told of them.
 pub mod TimeLaws
 pub mod Given
 pub mod Follow

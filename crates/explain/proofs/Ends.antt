@@ -1,7 +1,6 @@
 -- Which fault a call ends with that reads no source and no journal.
-use Rattle.std.proofs.Common.{◌≡◌, subst, refl, sym, ap, ◌∙◌, ℕ, List, Option, Some, None, Result, Ok, Err, OnOk, IfErr}
+use Rattle.std.proofs.Common.{◌≡◌, subst, refl, sym, ap, ◌∙◌, ℕ, List, Option, Some, Result, Ok, Err, OnOk, IfErr}
 use Rattle.std.specs.Prelude.{IsSome}
-use Rattle.std.specs.Io.KnownBytes.{Keeps}
 use Rattle.model.specs.declared.entry.Entry.{Entry}
 use Rattle.model.specs.Runs.{Effect, run, IsLawful}
 use Rattle.design.specs.Compiled.{Compiled, design_of}
@@ -59,11 +58,6 @@ begun_if (Err (Read f)) P is = absurd is
 begun_if (Err (Replay f)) P is = tt
 begun_if (Err CannotWrite) P is = tt
 begun_if (Err Memory) P is = tt
-
--- nothing was written
-pub keeps : (now : Option (List ℕ)) → Keeps now now
-keeps None = tt
-keeps (Some xs) = refl
 
 -- by these names and this presentation
 pub explains_if : {X E : Type 0} (r : Result X E) (source : List ℕ) (code : Compiled) (registers : Option (List ℕ)) (presentation : Presentation) (journal : List Entry) (old new : Option (List ℕ)) (t : ExplanationOptions)

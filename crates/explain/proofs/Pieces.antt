@@ -1,5 +1,5 @@
 -- Texts behind which pieces were put.
-use Rattle.std.proofs.Common.{◌≡◌, ◌∙◌, ap, sym, refl, ℕ, suc, ◌+◌, ◌<◌, List, [], ◌∷◌, ◌++◌, map, length, drop, append_assoc, arith, Result, Ok, Err, OnOk, is_ok, if◌then◌else◌, codes}
+use Rattle.std.proofs.Common.{◌≡◌, ◌∙◌, ap, sym, refl, ℕ, suc, ◌+◌, ◌<◌, List, [], ◌∷◌, ◌++◌, map, length, drop, append_assoc, arith, Result, Ok, Err, OnOk, codes}
 use Rattle.std.specs.Prelude.{slice_index_or}
 use Rattle.std.proofs.Math.Seq.{drop-cons}
 use Rattle.model.specs.States.{Event}
@@ -13,11 +13,6 @@ moved old new text piece rest put h = ap (λ t. t ++ rest) put ∙ (append_assoc
 -- where two pieces were put
 pub joined : (new old a mid b : List ℕ) → new ≡ mid ++ b → mid ≡ old ++ a → new ≡ old ++ (a ++ b)
 joined new old a mid b h k = h ∙ (ap (λ w. w ++ b) k ∙ append_assoc old a b)
-
--- as a vector says it of its last piece
-pub joined_last : {X E : Type 0} (r : Result X E) (new old a mid b : List ℕ) → new ≡ (if is_ok r then mid ++ b else mid) → mid ≡ old ++ a → OnOk r (new ≡ old ++ (a ++ b))
-joined_last (Ok x) new old a mid b h k = joined new old a mid b h k
-joined_last (Err x) new old a mid b h k = tt
 
 -- the element at a place, and what is left behind it
 drop_here : {A : Type 0} (l : List A) (i : ℕ) (x : A) → i < length l → x ≡ slice_index_or l i x → drop i l ≡ x ∷ drop (i + 1) l

@@ -1,5 +1,5 @@
 -- What the requests of the words, the files and the statuses tell of a command that ended.
-use Rattle.std.proofs.Common.{◌≡◌, ◌≢◌, ◌⊎◌, ◌==◌, ◌||◌, Bool, true, false, string_bytes, ◌++◌, ◌∙◌, ap, append_assoc, sym, subst, inl, inr, refl, ℕ, List, Option, Some, None, IfOk, IfErr, OnOk, OnErr, Result, Ok, Err, map, option_map, codes, drop, arith}
+use Rattle.std.proofs.Common.{◌≡◌, ◌≢◌, ◌⊎◌, Bool, true, false, string_bytes, ◌++◌, ◌∙◌, ap, append_assoc, sym, subst, inl, inr, refl, ℕ, List, Option, Some, None, IfOk, IfErr, OnOk, OnErr, Result, Ok, Err, option_map, codes, drop, arith}
 use Rattle.std.specs.Io.KnownBytes.{Appends, Keeps}
 use Rattle.model.specs.declared.entry.Entry.{Entry}
 use Rattle.arguments.specs.declared.run_options.RunOptions.{RunOptions}
@@ -32,6 +32,11 @@ use Rattle.program.specs.Observed.{HasBegunWaves, HasLeftWaves, HasObserved}
 use Rattle.arguments.specs.Observing.{IsObserved}
 use Rattle.arguments.specs.declared.observed.Observed.TheVariants.{Lines}
 use Rattle.program.specs.StandardError.{HasExplainedTold, HasNamedNoRegister, IsEndTold, IsReported, IsUnfinished, IsWanting, nothing, of_fault, of_name, of_source, of_stop}
+use Rattle.program.specs.declared.register_option.RegisterOption.{RegisterOption}
+use Rattle.program.specs.declared.register_option.RegisterOption.TheVariants as options
+use Rattle.program.specs.RegisterOptions.{naming_option}
+use Rattle.program.specs.ProgramLines.{no_register_line}
+use Rattle.telling.specs.FaultLines.{Tells}
 use Rattle.program.proofs.Statuses.{not_of_fault, not_of_stop}
 use Rattle.journal.specs.declared.counted.Counted.{Counted}
 use Rattle.files.specs.Saved.{AddsFile, IsOpened, SavesAllWhereAsked, KeepsFiles, KeepsHeld, MadeFile, SavesSomeWhereAsked, SavesWhereAsked}
@@ -243,23 +248,6 @@ refused_wrong words no_request.Memory n is status e = absurd (clash (sym status 
     clash : ◌≡◌ {A = ℕ} 6 2 → ⊥
     clash q = cc
 
--- a status that comes with none of these
-abbrev pub is_no_request_status : ℕ → Bool
-is_no_request_status n = n == 0 || (n == 1 || (n == 2 || n == 6))
-
-wrong_one : (b : Bool) → b ≡ true → b ≡ false → ⊥
-wrong_one true h e = cc
-wrong_one false h e = cc
-
-no_request_has : (r : NoRequest) (n : ℕ) → IsNoRequestStatus r n → is_no_request_status n ≡ true
-no_request_has (no_request.Help text) n (inl e) = ap is_no_request_status e
-no_request_has (no_request.Help text) n (inr e) = ap is_no_request_status e
-no_request_has (no_request.Usage text) n e = ap is_no_request_status e
-no_request_has no_request.Memory n e = ap is_no_request_status e
-
-pub not_of_no_request : (r : NoRequest) (n k : ℕ) → IsNoRequestStatus r n → is_no_request_status k ≡ false → n ≡ k → ⊥
-not_of_no_request r n k is h e = wrong_one (is_no_request_status k) (subst (λ (m : ℕ). is_no_request_status m ≡ true) e (no_request_has r n is)) h
-
 -- what a status tells of how a command ended
 
 pub done_by_status : (holding : Option (List ℕ → List ℕ)) (words : List Text) (old new : Option (List ℕ)) (files files' : Option (List MadeFile)) (ended : Result Ending CommandFault)
@@ -275,22 +263,58 @@ done_by_status holding words old new files files' (Ok (ending.NoRegister name)) 
 done_by_status holding words old new files files' (Ok ending.Differ) h e = cc
 done_by_status holding words old new files files' (Err f) h e = absurd (not_of_fault f 0 refl e)
 
+-- the option that names registers is that of the command which the words ask for
+
+option_of_races : (words : List Text) (r : Request) → Asks words r → Begins words (codes "races") → naming_option r ≡ options.Observe
+option_of_races words (request.Run run) asks begins = refl
+option_of_races words (request.Replay replay) asks begins = refl
+option_of_races words (request.Races races) asks begins = refl
+option_of_races words (request.Check check) asks begins = refl
+option_of_races words (request.Explain explain) asks begins = absurd (unlike (codes "explain") (codes "races") refl (sym asks.begins ∙ begins))
+option_of_races words (request.Waves waves) asks begins = refl
+option_of_races words (request.Diff diff) asks begins = refl
+option_of_races words request.Version asks begins = refl
+
+option_of_explain : (words : List Text) (r : Request) → Asks words r → Begins words (codes "explain") → naming_option r ≡ options.Registers
+option_of_explain words (request.Run run) asks begins = absurd (unlike (codes "run") (codes "explain") refl (sym asks.begins ∙ begins))
+option_of_explain words (request.Replay replay) asks begins = absurd (unlike (codes "replay") (codes "explain") refl (sym asks.begins ∙ begins))
+option_of_explain words (request.Races races) asks begins = absurd (unlike (codes "races") (codes "explain") refl (sym asks.begins ∙ begins))
+option_of_explain words (request.Check check) asks begins = absurd (unlike (codes "check") (codes "explain") refl (sym asks.begins ∙ begins))
+option_of_explain words (request.Explain explain) asks begins = refl
+option_of_explain words (request.Waves waves) asks begins = absurd (unlike (codes "waves") (codes "explain") refl (sym asks.begins ∙ begins))
+option_of_explain words (request.Diff diff) asks begins = absurd (unlike (codes "diff") (codes "explain") refl (sym asks.begins ∙ begins))
+option_of_explain words request.Version asks begins = absurd (unlike (codes "--version") (codes "explain") refl (sym asks ∙ begins))
+
+-- the line of a name, told with one option, is that with the other where the two are the same
+told_with : {E : Type 0} (contents : E → Option (List ℕ)) (err err' : Counted E) (name : List ℕ) (one other : RegisterOption) → one ≡ other → Tells contents err err' (no_register_line one name) → Tells contents err err' (no_register_line other name)
+told_with contents err err' name one other same told = subst (λ (o : RegisterOption). Tells contents err err' (no_register_line o name)) same told
+
 -- a name that no register has is the only end with that status
 pub unnamed_by_status : {E : Type 0} (holding : Option (List ℕ → List ℕ)) (words : List Text) (old new : Option (List ℕ)) (files files' : Option (List MadeFile)) (contents : E → Option (List ℕ))
-    (err err' : Counted E) (ended : Result Ending CommandFault)
-    → IfOk ended (HasEnded holding words old new files files') → IsEndTold contents err err' ended → ended_status ended ≡ 2
+    (err err' : Counted E) (option : RegisterOption) (r : Request) (ended : Result Ending CommandFault)
+    → Asks words r → option ≡ naming_option r → IfOk ended (HasEnded holding words old new files files') → IsEndTold contents err err' option ended → ended_status ended ≡ 2
     → HasNamedNoRegister holding words old new files files' contents err err'
-unnamed_by_status holding words old new files files' contents err err' (Ok ending.Done) h t e = cc
-unnamed_by_status holding words old new files files' contents err err' (Ok (ending.Stopped s)) h t e = absurd (not_of_stop s 2 refl e)
-unnamed_by_status holding words old new files files' contents err err' (Ok (ending.Found finding.One)) h t e = cc
-unnamed_by_status holding words old new files files' contents err err' (Ok (ending.Found finding.Unfinished)) h t e = cc
-unnamed_by_status holding words old new files files' contents err err' (Ok (ending.Found finding.Memory)) h t e = cc
-unnamed_by_status holding words old new files files' contents err err' (Ok (ending.Found finding.Several)) h t e = cc
-unnamed_by_status holding words old new files files' contents err err' (Ok (ending.Wrong text)) h t e = cc
-unnamed_by_status holding words old new files files' contents err err' (Ok (ending.NoRegister name)) (inl h) t e = record { name = string_bytes name; asked = inl (ending.NoRegister name, refl, h); told = t }
-unnamed_by_status holding words old new files files' contents err err' (Ok (ending.NoRegister name)) (inr h) t e = record { name = string_bytes name; asked = inr h; told = t }
-unnamed_by_status holding words old new files files' contents err err' (Ok ending.Differ) h t e = cc
-unnamed_by_status holding words old new files files' contents err err' (Err f) h t e = absurd (not_of_fault f 2 refl e)
+unnamed_by_status holding words old new files files' contents err err' option r (Ok ending.Done) asks is h t e = cc
+unnamed_by_status holding words old new files files' contents err err' option r (Ok (ending.Stopped s)) asks is h t e = absurd (not_of_stop s 2 refl e)
+unnamed_by_status holding words old new files files' contents err err' option r (Ok (ending.Found finding.One)) asks is h t e = cc
+unnamed_by_status holding words old new files files' contents err err' option r (Ok (ending.Found finding.Unfinished)) asks is h t e = cc
+unnamed_by_status holding words old new files files' contents err err' option r (Ok (ending.Found finding.Memory)) asks is h t e = cc
+unnamed_by_status holding words old new files files' contents err err' option r (Ok (ending.Found finding.Several)) asks is h t e = cc
+unnamed_by_status holding words old new files files' contents err err' option r (Ok (ending.Wrong text)) asks is h t e = cc
+unnamed_by_status holding words old new files files' contents err err' option r (Ok (ending.NoRegister name)) asks is (inl h) t e = record {
+  name = string_bytes name;
+  option = options.Observe;
+  asked = (ending.NoRegister name, refl, h);
+  told = told_with contents err err' (string_bytes name) option options.Observe (is ∙ option_of_races words r asks h.begins) t;
+}
+unnamed_by_status holding words old new files files' contents err err' option r (Ok (ending.NoRegister name)) asks is (inr h) t e = record {
+  name = string_bytes name;
+  option = options.Registers;
+  asked = h;
+  told = told_with contents err err' (string_bytes name) option options.Registers (is ∙ option_of_explain words r asks h.begins) t;
+}
+unnamed_by_status holding words old new files files' contents err err' option r (Ok ending.Differ) asks is h t e = cc
+unnamed_by_status holding words old new files files' contents err err' option r (Err f) asks is h t e = absurd (not_of_fault f 2 refl e)
 
 pub refused_by_status : (holding : Option (List ℕ → List ℕ)) (words : List Text) (old new : Option (List ℕ)) (files files' : Option (List MadeFile)) (ended : Result Ending CommandFault)
     → IfOk ended (HasEnded holding words old new files files') → IfErr ended (λ f. (status_of f ≡ 1) ⊎ (status_of f ≡ 6)) → ended_status ended ≡ 3
@@ -307,47 +331,47 @@ refused_by_status holding words old new files files' (Ok ending.Differ) h k e = 
 refused_by_status holding words old new files files' (Err f) h (inl one) e = absurd (omega (arith, one, e))
 refused_by_status holding words old new files files' (Err f) h (inr six) e = absurd (omega (arith, six, e))
 
-pub faulty_by_status : {E : Type 0} (holding : Option (List ℕ → List ℕ)) (words : List Text) (old new : Option (List ℕ)) (contents : E → Option (List ℕ)) (err err' : Counted E) (ended : Result Ending CommandFault)
-    → IfErr ended (λ f. status_of f ≡ 5 → HasExplainedPart holding words old new f) → IsEndTold contents err err' ended → ended_status ended ≡ 5
+pub faulty_by_status : {E : Type 0} (holding : Option (List ℕ → List ℕ)) (words : List Text) (old new : Option (List ℕ)) (contents : E → Option (List ℕ)) (err err' : Counted E) (option : RegisterOption) (ended : Result Ending CommandFault)
+    → IfErr ended (λ f. status_of f ≡ 5 → HasExplainedPart holding words old new f) → IsEndTold contents err err' option ended → ended_status ended ≡ 5
     → HasExplainedTold holding words old new contents err err'
-faulty_by_status holding words old new contents err err' (Ok ending.Done) h t e = cc
-faulty_by_status holding words old new contents err err' (Ok (ending.Stopped s)) h t e = absurd (not_of_stop s 5 refl e)
-faulty_by_status holding words old new contents err err' (Ok (ending.Found finding.One)) h t e = cc
-faulty_by_status holding words old new contents err err' (Ok (ending.Found finding.Unfinished)) h t e = cc
-faulty_by_status holding words old new contents err err' (Ok (ending.Found finding.Memory)) h t e = cc
-faulty_by_status holding words old new contents err err' (Ok (ending.Found finding.Several)) h t e = cc
-faulty_by_status holding words old new contents err err' (Ok (ending.Wrong text)) h t e = cc
-faulty_by_status holding words old new contents err err' (Ok (ending.NoRegister name)) h t e = cc
-faulty_by_status holding words old new contents err err' (Ok ending.Differ) h t e = cc
-faulty_by_status holding words old new contents err err' (Err f) h t e = record { fault = f; explained = h e; told = t }
+faulty_by_status holding words old new contents err err' option (Ok ending.Done) h t e = cc
+faulty_by_status holding words old new contents err err' option (Ok (ending.Stopped s)) h t e = absurd (not_of_stop s 5 refl e)
+faulty_by_status holding words old new contents err err' option (Ok (ending.Found finding.One)) h t e = cc
+faulty_by_status holding words old new contents err err' option (Ok (ending.Found finding.Unfinished)) h t e = cc
+faulty_by_status holding words old new contents err err' option (Ok (ending.Found finding.Memory)) h t e = cc
+faulty_by_status holding words old new contents err err' option (Ok (ending.Found finding.Several)) h t e = cc
+faulty_by_status holding words old new contents err err' option (Ok (ending.Wrong text)) h t e = cc
+faulty_by_status holding words old new contents err err' option (Ok (ending.NoRegister name)) h t e = cc
+faulty_by_status holding words old new contents err err' option (Ok ending.Differ) h t e = cc
+faulty_by_status holding words old new contents err err' option (Err f) h t e = record { fault = f; explained = h e; told = t }
 
 pub stopped_by_status : {E : Type 0} (holding : Option (List ℕ → List ℕ)) (words : List Text) (old new : Option (List ℕ)) (files files' : Option (List MadeFile)) (contents : E → Option (List ℕ))
-    (err err' : Counted E) (ended : Result Ending CommandFault) → IfOk ended (HasEnded holding words old new files files') → IsEndTold contents err err' ended
+    (err err' : Counted E) (option : RegisterOption) (ended : Result Ending CommandFault) → IfOk ended (HasEnded holding words old new files files') → IsEndTold contents err err' option ended
     → ended_status ended ≡ 4 → IsUnfinished holding words old new files files' contents err err'
-stopped_by_status holding words old new files files' contents err err' (Ok ending.Done) h t e = cc
-stopped_by_status holding words old new files files' contents err err' (Ok (ending.Stopped s)) h t e = inl (record { stop = s; status_is = e; has_run = h; told = t })
-stopped_by_status holding words old new files files' contents err err' (Ok (ending.Found finding.One)) h t e = cc
-stopped_by_status holding words old new files files' contents err err' (Ok (ending.Found finding.Unfinished)) h t e = inr (h, t)
-stopped_by_status holding words old new files files' contents err err' (Ok (ending.Found finding.Memory)) h t e = cc
-stopped_by_status holding words old new files files' contents err err' (Ok (ending.Found finding.Several)) h t e = cc
-stopped_by_status holding words old new files files' contents err err' (Ok (ending.Wrong text)) h t e = cc
-stopped_by_status holding words old new files files' contents err err' (Ok (ending.NoRegister name)) h t e = cc
-stopped_by_status holding words old new files files' contents err err' (Ok ending.Differ) h t e = cc
-stopped_by_status holding words old new files files' contents err err' (Err f) h t e = absurd (not_of_fault f 4 refl e)
+stopped_by_status holding words old new files files' contents err err' option (Ok ending.Done) h t e = cc
+stopped_by_status holding words old new files files' contents err err' option (Ok (ending.Stopped s)) h t e = inl (record { stop = s; status_is = e; has_run = h; told = t })
+stopped_by_status holding words old new files files' contents err err' option (Ok (ending.Found finding.One)) h t e = cc
+stopped_by_status holding words old new files files' contents err err' option (Ok (ending.Found finding.Unfinished)) h t e = inr (h, t)
+stopped_by_status holding words old new files files' contents err err' option (Ok (ending.Found finding.Memory)) h t e = cc
+stopped_by_status holding words old new files files' contents err err' option (Ok (ending.Found finding.Several)) h t e = cc
+stopped_by_status holding words old new files files' contents err err' option (Ok (ending.Wrong text)) h t e = cc
+stopped_by_status holding words old new files files' contents err err' option (Ok (ending.NoRegister name)) h t e = cc
+stopped_by_status holding words old new files files' contents err err' option (Ok ending.Differ) h t e = cc
+stopped_by_status holding words old new files files' contents err err' option (Err f) h t e = absurd (not_of_fault f 4 refl e)
 
 pub wanting_by_status : {E : Type 0} (holding : Option (List ℕ → List ℕ)) (words : List Text) (old new : Option (List ℕ)) (files files' : Option (List MadeFile)) (contents : E → Option (List ℕ))
-    (err err' : Counted E) (ended : Result Ending CommandFault) → IfOk ended (HasEnded holding words old new files files') → IfErr ended (λ f. status_of f ≡ 6 → IsLeft holding words old new files files')
-    → IsEndTold contents err err' ended → ended_status ended ≡ 6 → IsWanting holding words old new files files' contents err err'
-wanting_by_status holding words old new files files' contents err err' (Ok ending.Done) h k t e = cc
-wanting_by_status holding words old new files files' contents err err' (Ok (ending.Stopped s)) h k t e = inl (inl (record { stop = s; status_is = e; has_run = h; told = t }))
-wanting_by_status holding words old new files files' contents err err' (Ok (ending.Found finding.One)) h k t e = cc
-wanting_by_status holding words old new files files' contents err err' (Ok (ending.Found finding.Unfinished)) h k t e = cc
-wanting_by_status holding words old new files files' contents err err' (Ok (ending.Found finding.Memory)) h k t e = inl (inr (record { has_searched = h; told = t }))
-wanting_by_status holding words old new files files' contents err err' (Ok (ending.Found finding.Several)) h k t e = cc
-wanting_by_status holding words old new files files' contents err err' (Ok (ending.Wrong text)) h k t e = cc
-wanting_by_status holding words old new files files' contents err err' (Ok (ending.NoRegister name)) h k t e = cc
-wanting_by_status holding words old new files files' contents err err' (Ok ending.Differ) h k t e = cc
-wanting_by_status holding words old new files files' contents err err' (Err f) h k t e = inr (k e)
+    (err err' : Counted E) (option : RegisterOption) (ended : Result Ending CommandFault) → IfOk ended (HasEnded holding words old new files files') → IfErr ended (λ f. status_of f ≡ 6 → IsLeft holding words old new files files')
+    → IsEndTold contents err err' option ended → ended_status ended ≡ 6 → IsWanting holding words old new files files' contents err err'
+wanting_by_status holding words old new files files' contents err err' option (Ok ending.Done) h k t e = cc
+wanting_by_status holding words old new files files' contents err err' option (Ok (ending.Stopped s)) h k t e = inl (inl (record { stop = s; status_is = e; has_run = h; told = t }))
+wanting_by_status holding words old new files files' contents err err' option (Ok (ending.Found finding.One)) h k t e = cc
+wanting_by_status holding words old new files files' contents err err' option (Ok (ending.Found finding.Unfinished)) h k t e = cc
+wanting_by_status holding words old new files files' contents err err' option (Ok (ending.Found finding.Memory)) h k t e = inl (inr (record { has_searched = h; told = t }))
+wanting_by_status holding words old new files files' contents err err' option (Ok (ending.Found finding.Several)) h k t e = cc
+wanting_by_status holding words old new files files' contents err err' option (Ok (ending.Wrong text)) h k t e = cc
+wanting_by_status holding words old new files files' contents err err' option (Ok (ending.NoRegister name)) h k t e = cc
+wanting_by_status holding words old new files files' contents err err' option (Ok ending.Differ) h k t e = cc
+wanting_by_status holding words old new files files' contents err err' option (Err f) h k t e = inr (k e)
 
 -- the only ends with that status
 is_several : (ended : Result Ending CommandFault) → ended_status ended ≡ 7 → (ended ≡ Ok (ending.Found finding.Several)) ⊎ (ended ≡ Ok ending.Differ)
@@ -439,37 +463,37 @@ unsaved_by_status holding words old new files files' (Ok (ending.NoRegister name
 unsaved_by_status holding words old new files files' (Ok ending.Differ) h k e = absurd (no_seven e)
 unsaved_by_status holding words old new files files' (Err f) h k e = k (of_source_or_journal f e)
 
-pub silent_by_status : {E : Type 0} (contents : E → Option (List ℕ)) (err err' : Counted E) (ended : Result Ending CommandFault) → IsEndTold contents err err' ended
+pub silent_by_status : {E : Type 0} (contents : E → Option (List ℕ)) (err err' : Counted E) (option : RegisterOption) (ended : Result Ending CommandFault) → IsEndTold contents err err' option ended
     → (ended_status ended ≡ 0) ⊎ (ended_status ended ≡ 7) → err' ≡ err
-silent_by_status contents err err' (Ok ending.Done) t e = t
-silent_by_status contents err err' (Ok (ending.Stopped s)) t (inl e) = absurd (not_of_stop s 0 refl e)
-silent_by_status contents err err' (Ok (ending.Stopped s)) t (inr e) = absurd (not_of_stop s 7 refl e)
-silent_by_status contents err err' (Ok (ending.Found finding.One)) t e = t
-silent_by_status contents err err' (Ok (ending.Found finding.Unfinished)) t e = t
-silent_by_status contents err err' (Ok (ending.Found finding.Memory)) t (inl e) = cc
-silent_by_status contents err err' (Ok (ending.Found finding.Memory)) t (inr e) = cc
-silent_by_status contents err err' (Ok (ending.Found finding.Several)) t e = t
-silent_by_status contents err err' (Ok (ending.Wrong text)) t (inl e) = cc
-silent_by_status contents err err' (Ok (ending.Wrong text)) t (inr e) = cc
-silent_by_status contents err err' (Ok (ending.NoRegister name)) t (inl e) = cc
-silent_by_status contents err err' (Ok (ending.NoRegister name)) t (inr e) = cc
-silent_by_status contents err err' (Ok ending.Differ) t e = t
-silent_by_status contents err err' (Err f) t (inl e) = absurd (not_of_fault f 0 refl e)
-silent_by_status contents err err' (Err f) t (inr e) = absurd (not_of_fault f 7 refl e)
+silent_by_status contents err err' option (Ok ending.Done) t e = t
+silent_by_status contents err err' option (Ok (ending.Stopped s)) t (inl e) = absurd (not_of_stop s 0 refl e)
+silent_by_status contents err err' option (Ok (ending.Stopped s)) t (inr e) = absurd (not_of_stop s 7 refl e)
+silent_by_status contents err err' option (Ok (ending.Found finding.One)) t e = t
+silent_by_status contents err err' option (Ok (ending.Found finding.Unfinished)) t e = t
+silent_by_status contents err err' option (Ok (ending.Found finding.Memory)) t (inl e) = cc
+silent_by_status contents err err' option (Ok (ending.Found finding.Memory)) t (inr e) = cc
+silent_by_status contents err err' option (Ok (ending.Found finding.Several)) t e = t
+silent_by_status contents err err' option (Ok (ending.Wrong text)) t (inl e) = cc
+silent_by_status contents err err' option (Ok (ending.Wrong text)) t (inr e) = cc
+silent_by_status contents err err' option (Ok (ending.NoRegister name)) t (inl e) = cc
+silent_by_status contents err err' option (Ok (ending.NoRegister name)) t (inr e) = cc
+silent_by_status contents err err' option (Ok ending.Differ) t e = t
+silent_by_status contents err err' option (Err f) t (inl e) = absurd (not_of_fault f 0 refl e)
+silent_by_status contents err err' option (Err f) t (inr e) = absurd (not_of_fault f 7 refl e)
 
-pub told_by_status : {E : Type 0} (holding : Option (List ℕ → List ℕ)) (contents : E → Option (List ℕ)) (err err' : Counted E) (words : List Text) (old new : Option (List ℕ)) (files files' : Option (List MadeFile)) (ended : Result Ending CommandFault)
-    → IfOk ended (HasEnded holding words old new files files') → IsEndTold contents err err' ended → IsReported contents err err' words (ended_status ended)
-told_by_status holding contents err err' words old new files files' (Ok ending.Done) h t = nothing (inl refl) t
-told_by_status holding contents err err' words old new files files' (Ok (ending.Stopped s)) h t = of_stop s refl t
-told_by_status holding contents err err' words old new files files' (Ok (ending.Found finding.One)) h t = nothing (inl refl) t
-told_by_status holding contents err err' words old new files files' (Ok (ending.Found finding.Unfinished)) h t = nothing (inr (inl refl)) t
-told_by_status holding contents err err' words old new files files' (Ok (ending.Found finding.Memory)) h t = of_fault faults.Memory refl t
-told_by_status holding contents err err' words old new files files' (Ok (ending.Found finding.Several)) h t = nothing (inr (inr refl)) t
-told_by_status holding contents err err' words old new files files' (Ok (ending.Wrong text)) h t = of_source h.begins refl (string_bytes text) t
-told_by_status holding contents err err' words old new files files' (Ok (ending.NoRegister name)) (inl h) t = of_name (inl h.begins) refl (string_bytes name) t
-told_by_status holding contents err err' words old new files files' (Ok (ending.NoRegister name)) (inr h) t = of_name (inr h.begins) refl (string_bytes name) t
-told_by_status holding contents err err' words old new files files' (Ok ending.Differ) h t = nothing (inr (inr refl)) t
-told_by_status holding contents err err' words old new files files' (Err f) h t = of_fault f refl t
+pub told_by_status : {E : Type 0} (holding : Option (List ℕ → List ℕ)) (contents : E → Option (List ℕ)) (err err' : Counted E) (words : List Text) (old new : Option (List ℕ)) (files files' : Option (List MadeFile)) (option : RegisterOption) (r : Request) (ended : Result Ending CommandFault)
+    → Asks words r → option ≡ naming_option r → IfOk ended (HasEnded holding words old new files files') → IsEndTold contents err err' option ended → IsReported contents err err' words (ended_status ended)
+told_by_status holding contents err err' words old new files files' option r (Ok ending.Done) asks is h t = nothing (inl refl) t
+told_by_status holding contents err err' words old new files files' option r (Ok (ending.Stopped s)) asks is h t = of_stop s refl t
+told_by_status holding contents err err' words old new files files' option r (Ok (ending.Found finding.One)) asks is h t = nothing (inl refl) t
+told_by_status holding contents err err' words old new files files' option r (Ok (ending.Found finding.Unfinished)) asks is h t = nothing (inr (inl refl)) t
+told_by_status holding contents err err' words old new files files' option r (Ok (ending.Found finding.Memory)) asks is h t = of_fault faults.Memory refl t
+told_by_status holding contents err err' words old new files files' option r (Ok (ending.Found finding.Several)) asks is h t = nothing (inr (inr refl)) t
+told_by_status holding contents err err' words old new files files' option r (Ok (ending.Wrong text)) asks is h t = of_source h.begins refl (string_bytes text) t
+told_by_status holding contents err err' words old new files files' option r (Ok (ending.NoRegister name)) asks is (inl h) t = of_name options.Observe h.begins refl (string_bytes name) (told_with contents err err' (string_bytes name) option options.Observe (is ∙ option_of_races words r asks h.begins) t)
+told_by_status holding contents err err' words old new files files' option r (Ok (ending.NoRegister name)) asks is (inr h) t = of_name options.Registers h.begins refl (string_bytes name) (told_with contents err err' (string_bytes name) option options.Registers (is ∙ option_of_explain words r asks h.begins) t)
+told_by_status holding contents err err' words old new files files' option r (Ok ending.Differ) asks is h t = nothing (inr (inr refl)) t
+told_by_status holding contents err err' words old new files files' option r (Err f) asks is h t = of_fault f refl t
 
 -- output that nothing was written to
 pub output_same : (known : Option (List ℕ)) → Keeps known known

@@ -1,5 +1,5 @@
 -- What a search has found, with what is claimed of it.
-use Rattle.std.proofs.Common.{◌≡◌, ◌⊎◌, ◌∙◌, ap, append_assoc, inl, inr, subst, sym, refl, ℕ, ◌+◌, ◌≤◌, ◌<◌, Bool, true, false, List, [], ◌∷◌, ◌++◌, length, map, get_or, Option, Some, None, option_map, Result, Ok, Err, IfErr, IfOk, IfSome, IsTrue, OnOk, arith}
+use Rattle.std.proofs.Common.{◌≡◌, ◌⊎◌, ◌∙◌, ap, inl, inr, subst, sym, refl, ℕ, ◌+◌, ◌≤◌, ◌<◌, Bool, true, false, List, [], ◌++◌, length, Option, Some, None, option_map, Result, Ok, Err, IfErr, IfOk, IfSome, IsTrue, OnOk, arith}
 use Rattle.std.specs.List.{All, AllPairs, Contains}
 use Rattle.model.specs.declared.entry.Entry.{Entry}
 use Rattle.model.specs.declared.end.End.{End}
@@ -22,18 +22,17 @@ use Rattle.verdict.specs.Verdicts.{verdict_text}
 use Rattle.verdict.specs.declared.stops.StopDescription.{StopDescription}
 use Rattle.verdict.specs.declared.claim.Claim.{Claim}
 use Rattle.verdict.specs.declared.claim.SampledOrders.{SampledOrders}
-use Rattle.verdict.specs.declared.claim.Claim.TheVariants.{Every, SoFar, Sampled}
-use Rattle.verdict.specs.declared.claim.SearchStop.TheVariants.{States, Texts, Entries, Megabytes, Memory}
+use Rattle.verdict.specs.declared.claim.SearchStop.TheVariants.{Memory}
 use Rattle.std.specs.Io.KnownBytes.{Appends, Keeps}
 use Rattle.frontend.specs.Sources.{IsDesignOf}
 use Rattle.files.specs.Saved.{IsHeld, KeepsFiles, MadeFile, SavesAllWhereAsked, SavesSomeWhereAsked}
 use Rattle.arguments.specs.declared.search_options.SearchOptions.{SearchOptions}
 use Rattle.program.specs.declared.finding.SearchFinding.{SearchFinding}
 use Rattle.program.specs.declared.fault.CommandFault.{CommandFault}
-use Rattle.program.specs.Findings.{AreFound, AreOfSeeds, AreRacesKnown, IsFound, IsLawfulShown, IsClaimWithin, HaveSomeEnds, OnEvery, OnSampled, claim_of, endless_number, finding_of, first_text, have_stops, journals_of, limits_in, some_journal, search_stop_of, stops_from, unless_stopped, until_line}
+use Rattle.program.specs.Findings.{AreFound, AreOfSeeds, AreRacesKnown, IsFound, IsLawfulShown, IsClaimWithin, HaveSomeEnds, OnEvery, OnSampled, claim_of, endless_number, finding_of, first_text, have_stops, journals_of, limits_in, search_stop_of, stops_from, unless_stopped, until_line}
 use Rattle.program.specs.declared.racing.NamedRaces.{NamedRaces}
 use Rattle.program.specs.declared.racing.ToldRaces.{ToldRaces}
-use Rattle.program.specs.Printed.{HasFound, HasLeft, HasSavedSome, HasShown, IsToldFirst, IsToldLast, IsToldMore}
+use Rattle.program.specs.Printed.{HasFound, HasLeft, HasShown, IsToldFirst, IsToldLast, IsToldMore}
 use Rattle.program.specs.Program.{status_of}
 use Rattle.program.proofs.Knowing.{all_of_each, few_shown, races_still}
 use Rattle.program.proofs.Ended.{all_saved_on, appends_then, kept_on, some_saved_on}
@@ -160,25 +159,10 @@ searched_found items code search_options s t nodes found told number claim added
 
 -- the journals of texts and of one run more
 
-map_push : (f : Shown Entry End → List Entry) (ss : List (Shown Entry End)) (s : Shown Entry End) → map f (ss ++ s ∷ []) ≡ map f ss ++ f s ∷ []
-map_push f [] s = refl
-map_push f (x ∷ xs) s = ap (λ l. f x ∷ l) (map_push f xs s)
-
-none_behind : (xs : List (List Entry)) → xs ++ [] ≡ xs
-none_behind [] = refl
-none_behind (x ∷ xs) = ap (λ ys. x ∷ ys) (none_behind xs)
-
 -- what holds of an answer, where something else does
 pub if_ok : {T E : Type 0} (P Q : T → Type 0) (r : Result T E) → ((x : T) → P x → Q x) → IfOk r P → IfOk r Q
 if_ok P Q (Ok x) step h = step x h
 if_ok P Q (Err e) step h = tt
-
-pub one_journal_more : (ss all : List (Shown Entry End)) (one : Shown Entry End) (journal : List Entry) → one.moves.items ≡ journal → all ≡ ss ++ one ∷ [] → journals_of all None ≡ journals_of ss (Some journal)
-one_journal_more ss all one journal is more =
-    none_behind (map (λ s. s.moves.items) all) ∙ (ap (map (λ s. s.moves.items)) more ∙ (map_push (λ s. s.moves.items) ss one ∙ ap (λ j. map (λ s. s.moves.items) ss ++ j ∷ []) is))
-
-pub journals_alone : (ss : List (Shown Entry End)) → map (λ s. s.moves.items) ss ≡ journals_of ss None
-journals_alone ss = sym (none_behind (map (λ s. s.moves.items) ss))
 
 -- lines that tell races behind a text that is empty
 pub tells_alone : (source : List ℕ) (code : Compiled) (shown : List (Shown Entry End)) (prefix : Option (List ℕ)) (race_bounds : RaceBounds) (found : Found) (causes : List PartingRace) (empty lines : List ℕ) → empty ≡ []

@@ -1,4 +1,5 @@
 pub mod Presentations
+pub mod RegisterOptions
 pub mod Findings
 pub mod ProgramLines
 pub mod Observed

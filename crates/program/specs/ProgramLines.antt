@@ -22,6 +22,8 @@ use Rattle.program.specs.declared.fault.JournalFault.{JournalFault}
 use Rattle.program.specs.declared.fault.JournalFault.TheVariants as journals
 use Rattle.program.specs.declared.fault.CommandFault.{CommandFault}
 use Rattle.program.specs.declared.fault.CommandFault.TheVariants as fault
+use Rattle.program.specs.declared.register_option.RegisterOption.{RegisterOption}
+use Rattle.program.specs.declared.register_option.RegisterOption.TheVariants as options
 use Rattle.program.specs.declared.fault.Stop.{Stop}
 use Rattle.program.specs.declared.fault.Stop.TheVariants as stop
 
@@ -103,9 +105,14 @@ file_line (file.CannotRead path) = program_line (codes "cannot read ") (shown_pa
 file_line file.CannotWrite = program_line (codes "cannot write") [] []
 file_line file.Memory = program_line (codes "memory") [] []
 
--- a name that is to be observed and that no register has, with its control characters escaped
-abbrev pub no_register_line : List ℕ → List ℕ
-no_register_line name = program_line (codes "no register ") (shown_path name) []
+-- the option that gives a name, behind that name
+abbrev pub option_tail : RegisterOption → List ℕ
+option_tail options.Observe = codes "` (--observe)"
+option_tail options.Registers = codes "` (--registers)"
+
+-- a name that an option gives and that no register has, between backquotes and with its control characters escaped
+abbrev pub no_register_line : RegisterOption → List ℕ → List ℕ
+no_register_line option name = program_line (codes "no register `") (shown_path name) (option_tail option)
 
 -- the line of a fault
 abbrev pub fault_line : CommandFault → List ℕ

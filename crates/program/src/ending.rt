@@ -9,6 +9,7 @@ ghost use Rattle.program.specs.StandardError.{IsEndTold, IsEndingTold, IsFinding
 use crate::fault::{CommandFault, Stop};
 use crate::finding::SearchFinding;
 use crate::lines::{fault_line, no_register_line, stop_line};
+use crate::register_option::RegisterOption;
 use journal::Counted;
 use std::io::Write;
 use telling::{tell, tell_text};
@@ -61,30 +62,35 @@ impl Ending {
     }
 }
 
-/// Tells what is to be told of how a command ended, and answers the status.
-pub fn finish<E: Write>(ended: Result<Ending, CommandFault<'_>>, err: &mut Counted<E>) -> u8
+/// Tells what is to be told of how a command ended, and answers the status. The option is that by which the command names registers.
+pub fn finish<E: Write>(
+    ended: Result<Ending, CommandFault<'_>>,
+    option: RegisterOption,
+    err: &mut Counted<E>,
+) -> u8
     ensures status { result ≡ ended_status ended.entry }
-    ensures told { IsEndTold E.contents err.old err.new ended.entry }
+    ensures told { IsEndTold E.contents err.old err.new option ended.entry }
 {
     match ended {
         Ok(ending) => {
-            tell_ending(&ending, err);
+            tell_ending(&ending, option, err);
             ending.status()
         }
         Err(fault) => tell_fault(fault, err),
     }
 }
 
-/// Tells a stop, want of memory in a search, what is wrong with a source, or a name that no register has, and nothing of any other ending.
-fn tell_ending<E: Write>(ending: &Ending, err: &mut Counted<E>)
-    ensures { IsEndingTold E.contents err.old err.new ending.now }
+/// Tells a stop, want of memory in a search, what is wrong with a source, or a name that no register has with the option that gave it, and
+/// nothing of any other ending.
+fn tell_ending<E: Write>(ending: &Ending, option: RegisterOption, err: &mut Counted<E>)
+    ensures { IsEndingTold E.contents err.old err.new option ending.now }
 {
     match ending {
         Ending::Done | Ending::Differ => {}
         Ending::Found(found) => tell_finding(*found, err),
         Ending::Stopped(stop) => tell(err, &stop_line(*stop)),
         Ending::Wrong(text) => tell_text(err, text.as_str()),
-        Ending::NoRegister(name) => tell(err, &no_register_line(name.as_str())),
+        Ending::NoRegister(name) => tell(err, &no_register_line(option, name.as_str())),
     }
 }
 

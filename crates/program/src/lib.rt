@@ -6,7 +6,8 @@
 //!    `differing` two journals beside each other, `searching` a search for races, and `observed` one for waves. Of the first search `racing` tells the
 //!    races, `known` has texts that are known then, and `sampling` those of random orders; `texts` is what either search found, and `finding` says what it
 //!    has come to. `progress_probe` looks on at a run on workers, and `reading` reads a journal whole.
-//! 2. `ending` is how a command ended: it has the status, and tells what is to be told.
+//! 2. `ending` is how a command ended: it has the status, and tells what is to be told, which for a name that no register has wants the option
+//!    that gave it (`register_option`).
 //! 3. `fault` has the faults with their statuses, and `lines` their lines on standard error.
 //! 4. `program` is the whole program as a function, `command`, which `main` calls.
 #![tactic(auto)]
@@ -24,6 +25,7 @@ mod program;
 mod progress_probe;
 mod racing;
 mod reading;
+mod register_option;
 mod replaying;
 mod running;
 mod sampling;

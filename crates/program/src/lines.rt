@@ -2,9 +2,10 @@
 
 ghost use Rattle.std.specs.Prelude.{◌≡◌};
 ghost use Rattle.telling.specs.FaultLines.{line_of, program_line, subject_text};
-ghost use Rattle.program.specs.ProgramLines.{fault_line, file_line, no_register_line, stop_line, source_line, parse_line, module_line, simulate_line, replay_line, read_line, journal_line, entry_head, journal_tail, unread_with};
+ghost use Rattle.program.specs.ProgramLines.{fault_line, file_line, no_register_line, option_tail, stop_line, source_line, parse_line, module_line, simulate_line, replay_line, read_line, journal_line, entry_head, journal_tail, unread_with};
 
 use crate::fault::{CommandFault, JournalFault, Stop};
+use crate::register_option::RegisterOption;
 use differences::JournalSide;
 use elaborate::ElabFault;
 use explain::cause_code;
@@ -62,14 +63,24 @@ fn file_line<'a>(fault: &FileFault<'a>) -> SubjectLine<'a>
     }
 }
 
-/// The line of a name that is to be observed and that no register has.
-pub fn no_register_line(name: &str) -> SubjectLine<'_>
-    ensures { line_of result ≡ no_register_line name.entry.now }
+/// What stands behind a name that no register has: the option that gives the name.
+fn option_tail(option: RegisterOption) -> &'static str
+    ensures { result.now ≡ option_tail option }
+{
+    match option {
+        RegisterOption::Observe => "` (--observe)",
+        RegisterOption::Registers => "` (--registers)",
+    }
+}
+
+/// The line of a name that no register has. The name stands between backquotes, so that a space in it is seen.
+pub fn no_register_line(option: RegisterOption, name: &str) -> SubjectLine<'_>
+    ensures { line_of result ≡ no_register_line option name.entry.now }
 {
     SubjectLine {
-        head: "no register ",
+        head: "no register `",
         subject: Subject::Path(name),
-        tail: "",
+        tail: option_tail(option),
     }
 }
 

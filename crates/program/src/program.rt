@@ -25,6 +25,7 @@ use crate::ending::{Ending, finish, tell_fault};
 use crate::explaining::explain_journal;
 use crate::fault::CommandFault;
 use crate::observed::search_waves;
+use crate::register_option::RegisterOption;
 use crate::replaying::replay_journal;
 use crate::running::run;
 use crate::searching::search_races;
@@ -66,7 +67,7 @@ pub fn command<R: Threads + Wait + Sync, F: Files, O: Write, E: Write>(
     match read_request(alloc, words) {
         Ok(request) => {
             let ended = perform(rt, alloc, &request, files, out);
-            finish(ended, err)
+            finish(ended, RegisterOption::of(&request), err)
         }
         Err(no_request) => refuse(no_request, out, err),
     }

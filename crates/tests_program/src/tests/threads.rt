@@ -112,52 +112,42 @@ fn assert_runs<R: Abort + Threads + Wait + Sync>(
     }
 }
 
-/// The runs of a source on some numbers of workers.
+/// How often a source is run on each number of workers. A test has a minute, also on a machine that is busy, where a run on 16 workers
+/// may take a tenth of a second.
+const RUNS: u32 = 10;
+
+/// The runs of a source on each number of workers.
 fn assert_source<R: Abort + Threads + Wait + Sync>(
     rt: &R,
     alloc: Global,
     source: &str,
     texts: EitherText<'_>,
-    runs_on: &[(u32, u32)],
 ) {
     let design = design_of(rt, alloc, source);
-    for &(workers, runs) in runs_on {
-        assert_runs(rt, alloc, &design, workers, runs, texts);
+    for workers in 1..=16_u32 {
+        assert_runs(rt, alloc, &design, workers, RUNS, texts);
     }
 }
 
-/// Numbers of workers, and how often each of them runs a source.
-const RUNS: &[(u32, u32)] = &[
-    (1, 100),
-    (2, 1_000),
-    (3, 100),
-    (4, 1_000),
-    (8, 100),
-    (16, 1_000),
-];
-
-/// The same of a source with strobes.
-const STROBED_RUNS: &[(u32, u32)] = &[(1, 1_000), (4, 1_000), (16, 1_000)];
-
-/// A source, the two texts that it may print, or its only one twice, and its runs.
-type ThreadRace<'a> = (&'a str, &'a str, &'a str, &'a [(u32, u32)]);
+/// A source, and the two texts that it may print, or its only one twice.
+type ThreadRace<'a> = (&'a str, &'a str, &'a str);
 
 /// Sources that race.
 const RACES: &[ThreadRace<'static>] = &[
     // copies race as whole turns
-    (COPIES, "1 1\n", "0 0\n", RUNS),
+    (COPIES, "1 1\n", "0 0\n"),
     // waiters wake in either order
-    (WAITERS, "p1\np2\n", "p2\np1\n", RUNS),
+    (WAITERS, "p1\np2\n", "p2\np1\n"),
 ];
 
 /// Sources whose runs stop, and one that has one outcome.
 const STOPS: &[ThreadRace<'static>] = &[
     // a finished run ends on every worker
-    (FINISHES, "a\n", "c\na\n", RUNS),
+    (FINISHES, "a\n", "c\na\n"),
     // a clock stops at its limit on every worker
-    (CLOCK, "t\nt\n", "t\nt\n", RUNS),
+    (CLOCK, "t\nt\n", "t\nt\n"),
     // a swap has one outcome
-    (SWAP, "1 0\n", "1 0\n", RUNS),
+    (SWAP, "1 0\n", "1 0\n"),
 ];
 
 /// Sources with strobes.
@@ -167,14 +157,12 @@ const STROBES: &[ThreadRace<'static>] = &[
         "module t; reg a; initial begin a=1'b0; $strobe(\"p %b\",a); a<=1'b1; end initial $strobe(\"q %b\",a); endmodule",
         "p 1\nq 1\n",
         "q 1\np 1\n",
-        STROBED_RUNS,
     ),
     // strobes come before the time advances
     (
         "module t; reg [3:0] n; initial begin n=4'd0; while (n<4'd3) begin $strobe(\"n %0d\",n); n<=n+4'd1; #1; end end endmodule",
         "n 1\nn 2\nn 3\n",
         "n 1\nn 2\nn 3\n",
-        STROBED_RUNS,
     ),
 ];
 
@@ -184,8 +172,8 @@ fn assert_sources<R: Abort + Threads + Wait + Sync>(
     alloc: Global,
     sources: &[ThreadRace<'_>],
 ) {
-    for &(source, one, other, runs_on) in sources {
-        assert_source(rt, alloc, source, either(one, other), runs_on);
+    for &(source, one, other) in sources {
+        assert_source(rt, alloc, source, either(one, other));
     }
 }
 
@@ -202,4 +190,42 @@ fn every_number_of_workers_stops(rt: HostRuntime) {
 #[test]
 fn every_number_of_workers_strobes_in_order(rt: HostRuntime) {
     assert_sources(&rt, rt.alloc(), STROBES);
+}
+
+/// So many runs of the two copies on so many workers.
+fn assert_copies<R: Abort + Threads + Wait + Sync>(rt: &R, alloc: Global, workers: u32, runs: u32) {
+    let design = design_of(rt, alloc, COPIES);
+    let texts = either("1 1\n", "0 0\n");
+    assert_runs(rt, alloc, &design, workers, runs, texts);
+}
+
+#[test]
+fn a_thousand_copies_on_two_workers(rt: HostRuntime) {
+    assert_copies(&rt, rt.alloc(), 2, 1_000);
+}
+
+#[test]
+fn a_thousand_copies_on_four_workers(rt: HostRuntime) {
+    assert_copies(&rt, rt.alloc(), 4, 1_000);
+}
+
+/// A thousand runs on 16 workers are four tests, so that each has its minute.
+#[test]
+fn a_thousand_copies_on_sixteen_workers_1(rt: HostRuntime) {
+    assert_copies(&rt, rt.alloc(), 16, 250);
+}
+
+#[test]
+fn a_thousand_copies_on_sixteen_workers_2(rt: HostRuntime) {
+    assert_copies(&rt, rt.alloc(), 16, 250);
+}
+
+#[test]
+fn a_thousand_copies_on_sixteen_workers_3(rt: HostRuntime) {
+    assert_copies(&rt, rt.alloc(), 16, 250);
+}
+
+#[test]
+fn a_thousand_copies_on_sixteen_workers_4(rt: HostRuntime) {
+    assert_copies(&rt, rt.alloc(), 16, 250);
 }

@@ -10,5 +10,5 @@ returns-in-NoRegister g c =
     let contents = g.E.Write.contents in
     let err = c.args.err.now in
     let told = c.tell-in-NoRegister.new.err in
-    subst (IsEndingTold contents err told) (sym c.in-NoRegister.is)
-    (subst (λ (name : List ℕ). Tells contents err told (no_register_line name)) c.as_str-in-NoRegister.ensures.value (subst (Tells contents err told) c.no_register_line.ensures c.tell-in-NoRegister.ensures))
+    subst (IsEndingTold contents err told c.args.option) (sym c.in-NoRegister.is)
+    (subst (λ (name : List ℕ). Tells contents err told (no_register_line c.args.option name)) c.as_str-in-NoRegister.ensures.value (subst (Tells contents err told) c.no_register_line.ensures c.tell-in-NoRegister.ensures))

@@ -19,7 +19,7 @@ returns-in-Ok-clause-done g c = λ e.
 
 pub returns-in-Ok-clause-wrong : goal.returns-in-Ok-clause-wrong
 returns-in-Ok-clause-wrong g c = λ e.
-    inr (unnamed_by_status (g.F.Files.held c.args.files.now) (texts_of c.args.words.now) (g.O.Write.contents (held c.args.out.now)) (g.O.Write.contents (held c.perform-ended.new.out)) (g.F.Files.made c.args.files.now) (g.F.Files.made c.perform-ended.new.files) g.E.Write.contents c.args.err.now c.finish.new.err c.perform-ended.result (c.perform-ended.ensures.ended (texts_of c.args.words.now) c.in-Ok.ensures.asked) c.finish.ensures.told (sym c.finish.ensures.status ∙ e))
+    inr (unnamed_by_status (g.F.Files.held c.args.files.now) (texts_of c.args.words.now) (g.O.Write.contents (held c.args.out.now)) (g.O.Write.contents (held c.perform-ended.new.out)) (g.F.Files.made c.args.files.now) (g.F.Files.made c.perform-ended.new.files) g.E.Write.contents c.args.err.now c.finish.new.err c.of.result c.in-Ok.request c.perform-ended.result c.in-Ok.ensures.asked c.of.ensures (c.perform-ended.ensures.ended (texts_of c.args.words.now) c.in-Ok.ensures.asked) c.finish.ensures.told (sym c.finish.ensures.status ∙ e))
 
 pub returns-in-Ok-clause-refused : goal.returns-in-Ok-clause-refused
 returns-in-Ok-clause-refused g c = λ e begins.
@@ -28,16 +28,16 @@ returns-in-Ok-clause-refused g c = λ e begins.
 
 pub returns-in-Ok-clause-faulty : goal.returns-in-Ok-clause-faulty
 returns-in-Ok-clause-faulty g c = λ e begins.
-    faulty_by_status (g.F.Files.held c.args.files.now) (texts_of c.args.words.now) (g.O.Write.contents (held c.args.out.now)) (g.O.Write.contents (held c.perform-ended.new.out)) g.E.Write.contents c.args.err.now c.finish.new.err c.perform-ended.result
+    faulty_by_status (g.F.Files.held c.args.files.now) (texts_of c.args.words.now) (g.O.Write.contents (held c.args.out.now)) (g.O.Write.contents (held c.perform-ended.new.out)) g.E.Write.contents c.args.err.now c.finish.new.err c.of.result c.perform-ended.result
     (c.perform-ended.ensures.refused (texts_of c.args.words.now) c.in-Ok.ensures.asked begins) c.finish.ensures.told (sym c.finish.ensures.status ∙ e)
 
 pub returns-in-Ok-clause-stopped : goal.returns-in-Ok-clause-stopped
 returns-in-Ok-clause-stopped g c = λ e.
-    stopped_by_status (g.F.Files.held c.args.files.now) (texts_of c.args.words.now) (g.O.Write.contents (held c.args.out.now)) (g.O.Write.contents (held c.perform-ended.new.out)) (g.F.Files.made c.args.files.now) (g.F.Files.made c.perform-ended.new.files) g.E.Write.contents c.args.err.now c.finish.new.err c.perform-ended.result (c.perform-ended.ensures.ended (texts_of c.args.words.now) c.in-Ok.ensures.asked) c.finish.ensures.told (sym c.finish.ensures.status ∙ e)
+    stopped_by_status (g.F.Files.held c.args.files.now) (texts_of c.args.words.now) (g.O.Write.contents (held c.args.out.now)) (g.O.Write.contents (held c.perform-ended.new.out)) (g.F.Files.made c.args.files.now) (g.F.Files.made c.perform-ended.new.files) g.E.Write.contents c.args.err.now c.finish.new.err c.of.result c.perform-ended.result (c.perform-ended.ensures.ended (texts_of c.args.words.now) c.in-Ok.ensures.asked) c.finish.ensures.told (sym c.finish.ensures.status ∙ e)
 
 pub returns-in-Ok-clause-wanting : goal.returns-in-Ok-clause-wanting
 returns-in-Ok-clause-wanting g c = λ e.
-    wanting_by_status (g.F.Files.held c.args.files.now) (texts_of c.args.words.now) (g.O.Write.contents (held c.args.out.now)) (g.O.Write.contents (held c.perform-ended.new.out)) (g.F.Files.made c.args.files.now) (g.F.Files.made c.perform-ended.new.files) g.E.Write.contents c.args.err.now c.finish.new.err c.perform-ended.result (c.perform-ended.ensures.ended (texts_of c.args.words.now) c.in-Ok.ensures.asked)
+    wanting_by_status (g.F.Files.held c.args.files.now) (texts_of c.args.words.now) (g.O.Write.contents (held c.args.out.now)) (g.O.Write.contents (held c.perform-ended.new.out)) (g.F.Files.made c.args.files.now) (g.F.Files.made c.perform-ended.new.files) g.E.Write.contents c.args.err.now c.finish.new.err c.of.result c.perform-ended.result (c.perform-ended.ensures.ended (texts_of c.args.words.now) c.in-Ok.ensures.asked)
     (c.perform-ended.ensures.wanting (texts_of c.args.words.now) c.in-Ok.ensures.asked) c.finish.ensures.told (sym c.finish.ensures.status ∙ e)
 
 pub returns-in-Ok-clause-several : goal.returns-in-Ok-clause-several
@@ -55,13 +55,13 @@ returns-in-Ok-clause-unsaved g c = λ e.
 
 pub returns-in-Ok-clause-silent : goal.returns-in-Ok-clause-silent
 returns-in-Ok-clause-silent g c = λ e.
-    silent_by_status g.E.Write.contents c.args.err.now c.finish.new.err c.perform-ended.result c.finish.ensures.told (subst (λ (n : ℕ). (n ≡ 0) ⊎ (n ≡ 7)) c.finish.ensures.status e)
+    silent_by_status g.E.Write.contents c.args.err.now c.finish.new.err c.of.result c.perform-ended.result c.finish.ensures.told (subst (λ (n : ℕ). (n ≡ 0) ⊎ (n ≡ 7)) c.finish.ensures.status e)
 
 pub returns-in-Ok-clause-told : goal.returns-in-Ok-clause-told
 returns-in-Ok-clause-told g c =
     subst (IsReported g.E.Write.contents c.args.err.now c.finish.new.err (texts_of c.args.words.now)) (sym c.finish.ensures.status)
     (told_by_status (g.F.Files.held c.args.files.now) g.E.Write.contents c.args.err.now c.finish.new.err (texts_of c.args.words.now) (g.O.Write.contents (held c.args.out.now)) (g.O.Write.contents (held c.perform-ended.new.out))
-    (g.F.Files.made c.args.files.now) (g.F.Files.made c.perform-ended.new.files) c.perform-ended.result (c.perform-ended.ensures.ended (texts_of c.args.words.now) c.in-Ok.ensures.asked) c.finish.ensures.told)
+    (g.F.Files.made c.args.files.now) (g.F.Files.made c.perform-ended.new.files) c.of.result c.in-Ok.request c.perform-ended.result c.in-Ok.ensures.asked c.of.ensures (c.perform-ended.ensures.ended (texts_of c.args.words.now) c.in-Ok.ensures.asked) c.finish.ensures.told)
 
 -- words that make no request
 
