@@ -1,0 +1,2 @@
+-- Lemmas of tokens that do something in a statement.
+pub mod Behind

@@ -1,0 +1,30 @@
+-- What a token does in its statement, by the token behind it and by what stands before it.
+use Rattle.std.specs.Prelude.{Bool, true, false, ◌&&◌, if◌then◌else◌, Option, Some, None}
+use Rattle.tokens.specs.declared.token.Kind.{Kind}
+use Rattle.tokens.specs.declared.token.Kind.TheVariants as k
+use Rattle.tokens.specs.Tokens.{same_kind}
+use Rattle.statements.specs.declared.part.StatementPart.{StatementPart}
+use Rattle.statements.specs.declared.part.StatementPart.TheVariants as p
+use Rattle.statements.specs.contracts.part.StatementPart.{the_type}
+use denote.Enum.Bare.{sameb}
+
+-- Two parts are the same.
+unfoldable pub same_part : StatementPart → StatementPart → Bool
+same_part = sameb the_type
+
+-- A name that isn't the left side of an assignment is waited for in an event list, and read elsewhere, but where nothing is done with it.
+abbrev pub part_inside : Bool → Bool → Option StatementPart
+part_inside event_list silent = if event_list then Some p.Awaited else (if silent then None else Some p.Read)
+
+-- A name before `=` is written, and one with which a statement begins is assigned before `<=`.
+abbrev pub part_of_name : Kind → Bool → Bool → Bool → Option StatementPart
+part_of_name next begins event_list silent =
+    if same_kind next k.Assign then Some p.Written else (if (same_kind next k.AtMost && begins) then Some p.Assigned else part_inside event_list silent)
+
+-- A name does so, a system name prints, strobes or finishes the run, and no other token does anything.
+abbrev pub part_at : Kind → Kind → Bool → Bool → Bool → Option StatementPart
+part_at k.Name next begins event_list silent = part_of_name next begins event_list silent
+part_at k.Display next begins event_list silent = Some p.Printing
+part_at k.Strobe next begins event_list silent = Some p.Strobing
+part_at k.Finish next begins event_list silent = Some p.Finishing
+part_at kind next begins event_list silent = None
