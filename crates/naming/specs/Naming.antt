@@ -34,7 +34,7 @@ use Rattle.naming.specs.UnseenRegisters.{unseen_text}
 use Rattle.naming.specs.RaceWords.{cut_of, IsSiteTold}
 use Rattle.naming.specs.RoleWords.{role_words}
 
--- a process is told by its number, where it begins, and what it does at this site, in words and with the line in which it does so, where that is known
+-- a process is told by its number, where it begins, and what it does at this site, in words and with the lines between which it does so, where they are known
 pub record IsRoleTold (places : SourcePlaces) (site : SiteDescription) (role : found_role.Role) (told : RoleDescription) : Type 0 where
   pub number : told.number ≡ role.process
   pub begin : told.begins ≡ begin_of places.processes.now role.process
@@ -157,8 +157,8 @@ pub record TellsSome (places : SourcePlaces) (code : Compiled) (shown : List (Sh
   pub are_kept : AreOrdersOf shown (line_orders races) kept
   pub orders_is : after.orders.items ≡ before.orders.items ++ kept
 
--- What was found in the design of a source is told in these lines: races that part texts, and behind them those of a first run, each process by where it begins and by the line in which
--- it does what it is told for, where that is known.
+-- What was found in the design of a source is told in these lines: races that part texts, and behind them those of a first run, each process by where it begins and by the lines
+-- between which it does what it is told for, where these are known.
 -- Those that aren't for the order of lines come first, one after another, with numbers, and then one line for each time of the others. Behind them stands by what the
 -- list of the first run's was cut, if it was.
 pub record TellsRaces (source : List ℕ) (code : Compiled) (shown : List (Shown Entry End)) (prefix : Option (List ℕ)) (race_bounds : RaceBounds) (found : Found) (causes : List PartingRace) (lines : List ℕ) : Type 0 where

@@ -1,5 +1,6 @@
--- What a process does, in words, and the line in which it does so.
-use Rattle.std.specs.Prelude.{ℕ, List, [], ◌++◌, Bool, true, false, if◌then◌else◌, map, Option, Some, None, codes, decimal}
+-- What a process does, in words, and the lines in which it does so.
+use Rattle.std.specs.Prelude.{ℕ, ◌==◌, List, [], ◌++◌, Bool, true, false, if◌then◌else◌, map, Option, Some, None, codes, decimal}
+use Rattle.std.specs.List.{filter}
 use Rattle.accesses.specs.declared.role.Does.{Does}
 use Rattle.accesses.specs.declared.role.Does.TheVariants.{Writes, Assigns, Updates, Reads, Waits, Prints, Strobes, Finishes, Runs, Schedules}
 use Rattle.accesses.specs.declared.role.Role.{Role}
@@ -8,7 +9,8 @@ use Rattle.verdict.specs.declared.race.SiteDescription.TheVariants.{Register, Pr
 use Rattle.statements.specs.declared.part.StatementPart.{StatementPart}
 use Rattle.statements.specs.declared.part.StatementPart.TheVariants as parts
 use Rattle.statements.specs.PlainStatementTokens.{plain_statement_token}
-use Rattle.statements.specs.StatementLines.{lines_sought, sole_line}
+use Rattle.statements.specs.StatementLines.{is_sought, lines_of_tokens}
+use Rattle.statements.specs.declared.lines.LineRange.{LineRange}
 use Rattle.naming.specs.RaceWords.{access_word}
 use Rattle.naming.specs.declared.places.SourcePlaces.{SourcePlaces}
 
@@ -46,20 +48,25 @@ name_done Strobing does = None
 name_done Finishing does = None
 name_done Updating does = None
 
--- the line of the tokens that do so in the process with a number, where all stand in one
-abbrev pub line_done : SourcePlaces → ℕ → Option (List ℕ) → Option StatementPart → Option ℕ
-line_done places process name (Some part) = sole_line (lines_sought places.source.now part process name (map plain_statement_token places.statements.now))
-line_done places process name None = None
+-- the lines of the first and the last token that does so in the process with a number, if one does
+abbrev pub lines_done : SourcePlaces → ℕ → Option (List ℕ) → Option StatementPart → Option LineRange
+lines_done places process name (Some part) = lines_of_tokens places.source.now (filter (is_sought part process name) (map plain_statement_token places.statements.now))
+lines_done places process name None = None
 
--- the line in which a process does what it is told for at a site
-abbrev pub role_line : SourcePlaces → SiteDescription → Role → Option ℕ
-role_line places site role = line_done places role.process (name_done site role.does) (part_done role.does)
+-- the lines between which a process does what it is told for at a site, if they are known
+abbrev pub role_lines : SourcePlaces → SiteDescription → Role → Option LineRange
+role_lines places site role = lines_done places role.process (name_done site role.does) (part_done role.does)
 
--- in which line that is, if it is known
-abbrev pub at_line_text : Option ℕ → List ℕ
-at_line_text (Some line) = codes " at line " ++ decimal line
-at_line_text None = []
+-- the one line of a range, or its two lines
+abbrev pub range_text : LineRange → List ℕ
+range_text range =
+    if range.first == range.last then (codes " at line " ++ decimal range.first) else (codes " between lines " ++ (decimal range.first ++ (codes " and " ++ decimal range.last)))
 
--- what a process does, and in which line, if that is known
+-- so it is of lines, if they are known
+abbrev pub in_lines_text : Option LineRange → List ℕ
+in_lines_text (Some range) = range_text range
+in_lines_text None = []
+
+-- what a process does, and between which lines, if these are known
 abbrev pub role_words : SourcePlaces → SiteDescription → Role → List ℕ
-role_words places site role = access_word role.does ++ at_line_text (role_line places site role)
+role_words places site role = access_word role.does ++ in_lines_text (role_lines places site role)

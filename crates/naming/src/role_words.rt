@@ -1,12 +1,12 @@
-//! What a process does where it races, in words, and the line in which it does so.
+//! What a process does where it races, in words, and the lines in which it does so.
 ghost use Rattle.std.specs.Prelude.{◌≡◌, ◌++◌, IfOk, None, OnOk, Some, codes, decimal, if◌then◌else◌, option_map, string_bytes};
-ghost use Rattle.naming.specs.RoleWords.{at_line_text, is_to_register, line_done, name_done, part_done, role_line, role_words};
+ghost use Rattle.naming.specs.RoleWords.{in_lines_text, is_to_register, lines_done, name_done, part_done, range_text, role_lines, role_words};
 
 use crate::places::SourcePlaces;
 use crate::words::word_of;
 use accesses::{Does, Role};
 use itoa::Buffer;
-use statements::{SoughtPart, StatementPart, line_of};
+use statements::{LineRange, SoughtPart, StatementPart, lines_of};
 use std::alloc::AllocError;
 use verdict::SiteDescription;
 
@@ -56,17 +56,17 @@ fn name_if(name: &str, wanted: bool) -> Option<&str>
     if wanted { Some(name) } else { None }
 }
 
-/// The line of the tokens that do so in a process, where all stand in one.
-fn line_done(
+/// The lines of the first and the last token that does so in a process, if one does.
+fn lines_done(
     places: &SourcePlaces<'_>,
     process: u32,
     name: Option<&str>,
     part: Option<StatementPart>,
-) -> Option<usize>
-    ensures { result ≡ line_done places.now process (option_map (λ name. name.now) name.entry) part }
+) -> Option<LineRange>
+    ensures { result ≡ lines_done places.now process (option_map (λ name. name.now) name.entry) part }
 {
     match part {
-        Some(part) => line_of(
+        Some(part) => lines_of(
             places.source,
             places.statements,
             &SoughtPart {
@@ -79,34 +79,62 @@ fn line_done(
     }
 }
 
-/// The line in which a process does what it is told for at a site, where it is known.
-fn role_line(places: &SourcePlaces<'_>, site: SiteDescription<'_>, role: Role) -> Option<usize>
-    ensures { result ≡ role_line places.now site.entry role }
+/// The lines between which a process does what it is told for at a site, if they are known.
+fn role_lines(places: &SourcePlaces<'_>, site: SiteDescription<'_>, role: Role) -> Option<LineRange>
+    ensures { result ≡ role_lines places.now site.entry role }
 {
     let name = name_done(site, role.does);
-    line_done(places, role.process, name, part_done(role.does))
+    lines_done(places, role.process, name, part_done(role.does))
 }
 
-/// Puts a line behind words, where it is known.
-fn push_line(words: &mut String, line: Option<usize>) -> Result<(), AllocError>
-    ensures { OnOk result (string_bytes words.new ≡ string_bytes words.old ++ at_line_text line) }
+/// Puts a number behind words.
+fn push_number(words: &mut String, number: usize) -> Result<(), AllocError>
+    ensures { OnOk result (string_bytes words.new ≡ string_bytes words.old ++ decimal number) }
 {
-    match line {
-        Some(line) => push_known_line(words, line),
+    let mut digits = Buffer::new();
+    words.push_str(digits.format(number))
+}
+
+/// Puts the one line of a range behind words.
+fn push_line(words: &mut String, line: usize) -> Result<(), AllocError>
+    ensures { OnOk result (string_bytes words.new ≡ string_bytes words.old ++ (codes " at line " ++ decimal line)) }
+{
+    words.push_str(" at line ")?;
+    push_number(words, line)
+}
+
+/// Puts two lines behind words.
+fn push_both_lines(words: &mut String, range: LineRange) -> Result<(), AllocError>
+    ensures { OnOk result (string_bytes words.new ≡ string_bytes words.old ++ (codes " between lines " ++ (decimal range.first ++ (codes " and " ++ decimal range.last)))) }
+{
+    words.push_str(" between lines ")?;
+    push_number(words, range.first)?;
+    words.push_str(" and ")?;
+    push_number(words, range.last)
+}
+
+/// Puts the lines of a range behind words.
+fn push_range(words: &mut String, range: LineRange) -> Result<(), AllocError>
+    ensures { OnOk result (string_bytes words.new ≡ string_bytes words.old ++ range_text range) }
+{
+    if range.first == range.last {
+        push_line(words, range.first)
+    } else {
+        push_both_lines(words, range)
+    }
+}
+
+/// Puts lines behind words, if they are known.
+fn push_lines(words: &mut String, lines: Option<LineRange>) -> Result<(), AllocError>
+    ensures { OnOk result (string_bytes words.new ≡ string_bytes words.old ++ in_lines_text lines) }
+{
+    match lines {
+        Some(range) => push_range(words, range),
         None => Ok(()),
     }
 }
 
-/// Puts a line behind words.
-fn push_known_line(words: &mut String, line: usize) -> Result<(), AllocError>
-    ensures { OnOk result (string_bytes words.new ≡ string_bytes words.old ++ (codes " at line " ++ decimal line)) }
-{
-    let mut digits = Buffer::new();
-    words.push_str(" at line ")?;
-    words.push_str(digits.format(line))
-}
-
-/// What a process does at a site, and in which line, where that is known. Fails where memory is refused.
+/// What a process does at a site, and between which lines, if these are known. Fails where memory is refused.
 pub(crate) fn role_words(
     places: &SourcePlaces<'_>,
     site: SiteDescription<'_>,
@@ -114,8 +142,8 @@ pub(crate) fn role_words(
 ) -> Result<String, AllocError>
     ensures { IfOk result (λ words. string_bytes words ≡ role_words places.now site.entry role) }
 {
-    let line = role_line(places, site, role);
+    let lines = role_lines(places, site, role);
     let mut words = String::from_str(places.alloc, word_of(role.does))?;
-    push_line(&mut words, line)?;
+    push_lines(&mut words, lines)?;
     Ok(words)
 }

@@ -1,8 +1,8 @@
--- In which line a process does something.
-use Rattle.std.specs.Prelude.{ℕ, ◌+◌, ◌==◌, List, [], ◌∷◌, Bool, true, ◌&&◌, if◌then◌else◌, map, Option, Some, None}
-use Rattle.std.specs.List.{filter, list_all}
+-- In which lines a process does something.
+use Rattle.std.specs.Prelude.{ℕ, ◌+◌, ◌==◌, List, [], ◌∷◌, Bool, true, ◌&&◌, Option, Some, None}
 use Rattle.std.specs.Str.{bytes_eq}
 use Rattle.locations.specs.SourceLocations.{location_of}
+use Rattle.statements.specs.declared.lines.LineRange.{LineRange}
 use Rattle.statements.specs.declared.part.StatementPart.{StatementPart}
 use Rattle.statements.specs.Parts.{same_part}
 use Rattle.statements.specs.StatementTokens.{PlainStatementToken}
@@ -20,11 +20,12 @@ is_spelled None text = true
 abbrev pub is_sought : StatementPart → ℕ → Option (List ℕ) → PlainStatementToken → Bool
 is_sought part process name t = (same_part t.part part && t.process == process + 1) && is_spelled name t.text
 
--- The lines of those tokens that do so, in their order.
-abbrev pub lines_sought : List ℕ → StatementPart → ℕ → Option (List ℕ) → List PlainStatementToken → List ℕ
-lines_sought source part process name tokens = map (λ t. line_of_byte source t.byte) (filter (is_sought part process name) tokens)
+-- The first byte of the last of some tokens, and this byte where there are none.
+abbrev pub last_byte : ℕ → List PlainStatementToken → ℕ
+last_byte byte [] = byte
+last_byte byte (t ∷ ts) = last_byte t.byte ts
 
--- The line in which all stand, if there are some and they stand in one.
-abbrev pub sole_line : List ℕ → Option ℕ
-sole_line [] = None
-sole_line (line ∷ lines) = if list_all (λ other. other == line) lines then Some line else None
+-- The lines of the first and of the last of some tokens, if there are some.
+abbrev pub lines_of_tokens : List ℕ → List PlainStatementToken → Option LineRange
+lines_of_tokens source [] = None
+lines_of_tokens source (t ∷ ts) = Some (record { first = line_of_byte source t.byte; last = line_of_byte source (last_byte t.byte ts) })
