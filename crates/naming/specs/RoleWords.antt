@@ -1,5 +1,5 @@
 -- What a process does, in words, and the lines in which it does so.
-use Rattle.std.specs.Prelude.{ℕ, ◌==◌, List, [], ◌++◌, Bool, true, false, if◌then◌else◌, map, Option, Some, None, codes, decimal}
+use Rattle.std.specs.Prelude.{ℕ, ◌==◌, List, ◌++◌, Bool, true, false, if◌then◌else◌, map, Option, Some, None, codes, decimal}
 use Rattle.std.specs.List.{filter}
 use Rattle.accesses.specs.declared.role.Does.{Does}
 use Rattle.accesses.specs.declared.role.Does.TheVariants.{Writes, Assigns, Updates, Reads, Waits, Prints, Strobes, Finishes, Runs, Schedules}
@@ -57,16 +57,16 @@ lines_done places process name None = None
 abbrev pub role_lines : SourcePlaces → SiteDescription → Role → Option LineRange
 role_lines places site role = lines_done places role.process (name_done site role.does) (part_done role.does)
 
--- the one line of a range, or its two lines
-abbrev pub range_text : LineRange → List ℕ
-range_text range =
-    if range.first == range.last then (codes " at line " ++ decimal range.first) else (codes " between lines " ++ (decimal range.first ++ (codes " and " ++ decimal range.last)))
+-- a word, and behind it the one line of a range, or its two lines
+abbrev pub in_range : List ℕ → LineRange → List ℕ
+in_range word range =
+    if range.first == range.last then (word ++ codes " at line " ++ decimal range.first) else (word ++ codes " between lines " ++ decimal range.first ++ codes " and " ++ decimal range.last)
 
--- so it is of lines, if they are known
-abbrev pub in_lines_text : Option LineRange → List ℕ
-in_lines_text (Some range) = range_text range
-in_lines_text None = []
+-- a word, and behind it lines, if they are known
+abbrev pub in_lines : List ℕ → Option LineRange → List ℕ
+in_lines word (Some range) = in_range word range
+in_lines word None = word
 
 -- what a process does, and between which lines, if these are known
 abbrev pub role_words : SourcePlaces → SiteDescription → Role → List ℕ
-role_words places site role = access_word role.does ++ in_lines_text (role_lines places site role)
+role_words places site role = in_lines (access_word role.does) (role_lines places site role)

@@ -1,13 +1,13 @@
 //! What a process does where it races, in words, and the lines in which it does so.
-ghost use Rattle.std.specs.Prelude.{◌≡◌, ◌++◌, IfOk, None, OnOk, Some, codes, decimal, if◌then◌else◌, option_map, string_bytes};
-ghost use Rattle.naming.specs.RoleWords.{in_lines_text, is_to_register, lines_done, name_done, part_done, range_text, role_lines, role_words};
+ghost use Rattle.std.specs.Prelude.{◌≡◌, ◌++◌, IfOk, None, Some, codes, decimal, if◌then◌else◌, option_map, string_bytes};
+ghost use Rattle.naming.specs.RoleWords.{in_lines, in_range, is_to_register, lines_done, name_done, part_done, role_lines, role_words};
 
 use crate::places::SourcePlaces;
 use crate::words::word_of;
 use accesses::{Does, Role};
 use itoa::Buffer;
 use statements::{LineRange, SoughtPart, StatementPart, lines_of};
-use std::alloc::AllocError;
+use std::alloc::{AllocError, Global};
 use verdict::SiteDescription;
 
 /// What a token does by which a process does this, if one does.
@@ -87,50 +87,49 @@ fn role_lines(places: &SourcePlaces<'_>, site: SiteDescription<'_>, role: Role) 
     lines_done(places, role.process, name, part_done(role.does))
 }
 
-/// Puts a number behind words.
-fn push_number(words: &mut String, number: usize) -> Result<(), AllocError>
-    ensures { OnOk result (string_bytes words.new ≡ string_bytes words.old ++ decimal number) }
+/// A word, and behind it the one line of a range.
+fn at_line(alloc: Global, word: &str, line: usize) -> Result<String, AllocError>
+    ensures { IfOk result (λ words. string_bytes words ≡ word.now ++ codes " at line " ++ decimal line) }
 {
     let mut digits = Buffer::new();
-    words.push_str(digits.format(number))
-}
-
-/// Puts the one line of a range behind words.
-fn push_line(words: &mut String, line: usize) -> Result<(), AllocError>
-    ensures { OnOk result (string_bytes words.new ≡ string_bytes words.old ++ (codes " at line " ++ decimal line)) }
-{
+    let mut words = String::from_str(alloc, word)?;
     words.push_str(" at line ")?;
-    push_number(words, line)
+    words.push_str(digits.format(line))?;
+    Ok(words)
 }
 
-/// Puts two lines behind words.
-fn push_both_lines(words: &mut String, range: LineRange) -> Result<(), AllocError>
-    ensures { OnOk result (string_bytes words.new ≡ string_bytes words.old ++ (codes " between lines " ++ (decimal range.first ++ (codes " and " ++ decimal range.last)))) }
+/// A word, and behind it the two lines of a range.
+fn between_lines(alloc: Global, word: &str, range: LineRange) -> Result<String, AllocError>
+    ensures { IfOk result (λ words. string_bytes words ≡ word.now ++ codes " between lines " ++ decimal range.first ++ codes " and " ++ decimal range.last) }
 {
+    let mut first = Buffer::new();
+    let mut last = Buffer::new();
+    let mut words = String::from_str(alloc, word)?;
     words.push_str(" between lines ")?;
-    push_number(words, range.first)?;
+    words.push_str(first.format(range.first))?;
     words.push_str(" and ")?;
-    push_number(words, range.last)
+    words.push_str(last.format(range.last))?;
+    Ok(words)
 }
 
-/// Puts the lines of a range behind words.
-fn push_range(words: &mut String, range: LineRange) -> Result<(), AllocError>
-    ensures { OnOk result (string_bytes words.new ≡ string_bytes words.old ++ range_text range) }
+/// A word, and behind it the lines of a range.
+fn in_range(alloc: Global, word: &str, range: LineRange) -> Result<String, AllocError>
+    ensures { IfOk result (λ words. string_bytes words ≡ in_range word.now range) }
 {
     if range.first == range.last {
-        push_line(words, range.first)
+        at_line(alloc, word, range.first)
     } else {
-        push_both_lines(words, range)
+        between_lines(alloc, word, range)
     }
 }
 
-/// Puts lines behind words, if they are known.
-fn push_lines(words: &mut String, lines: Option<LineRange>) -> Result<(), AllocError>
-    ensures { OnOk result (string_bytes words.new ≡ string_bytes words.old ++ in_lines_text lines) }
+/// A word, and behind it lines, if they are known.
+fn in_lines(alloc: Global, word: &str, lines: Option<LineRange>) -> Result<String, AllocError>
+    ensures { IfOk result (λ words. string_bytes words ≡ in_lines word.now lines) }
 {
     match lines {
-        Some(range) => push_range(words, range),
-        None => Ok(()),
+        Some(range) => in_range(alloc, word, range),
+        None => String::from_str(alloc, word),
     }
 }
 
@@ -143,7 +142,5 @@ pub(crate) fn role_words(
     ensures { IfOk result (λ words. string_bytes words ≡ role_words places.now site.entry role) }
 {
     let lines = role_lines(places, site, role);
-    let mut words = String::from_str(places.alloc, word_of(role.does))?;
-    push_lines(&mut words, lines)?;
-    Ok(words)
+    in_lines(places.alloc, word_of(role.does), lines)
 }
