@@ -1,7 +1,8 @@
 -- The token at the front of what is left, where some are looked for.
-use Rattle.std.proofs.Common.{◌≡◌, ◌∙◌, ap, sym, subst, ℕ, ◌+◌, ◌-◌, ◌≤◌, Bool, true, false, cond, List, [], ◌∷◌, Some, length, take, drop, get_or, map, refl, arith}
+use Rattle.std.proofs.Common.{◌≡◌, ◌∙◌, ap, sym, subst, ℕ, ◌+◌, ◌-◌, ◌≤◌, Bool, true, false, cond, List, [], ◌∷◌, Option, Some, length, take, drop, get_or, map, refl, arith}
 use Rattle.std.specs.List.{filter}
 use Rattle.std.proofs.lemmas.List.{take_all}
+use Rattle.statements.specs.declared.lines.LineRange.{LineRange}
 use Rattle.statements.specs.declared.statement_token.StatementToken.{StatementToken}
 use Rattle.statements.specs.PlainStatementTokens.{plain_statement_token}
 use Rattle.statements.specs.StatementTokens.{PlainStatementToken}
@@ -44,3 +45,12 @@ first_found source is (x ∷ xs) d all some found whole =
     let same : filter is (map plain_statement_token (x ∷ xs)) ≡ plain_statement_token x ∷ behind = ap (λ b. cond b (plain_statement_token x ∷ behind) behind) found in
     ap (λ (ys : List StatementToken). lines_of_tokens source (plain_statement_token x ∷ filter is (map plain_statement_token ys))) (take_all (length (x ∷ xs) - 1) xs short)
     ∙ ap (lines_of_tokens source) (sym same ∙ whole)
+
+-- so its line and that of the last one are answered
+pub range_found : (source : List ℕ) (is : PlainStatementToken → Bool) (xs : List StatementToken) (d : StatementToken) (all : List PlainStatementToken) (first last byte : ℕ) → 1 ≤ length xs
+    → is (plain_statement_token (get_or xs 0 d)) ≡ true → filter is (map plain_statement_token xs) ≡ all → first ≡ line_of_byte source (get_or xs 0 d).byte
+    → byte ≡ last_byte (get_or xs 0 d).byte (filter is (map plain_statement_token (take (length xs - 1) (drop 1 xs)))) → last ≡ line_of_byte source byte
+    → Some (record { first = first; last = last }) ≡ lines_of_tokens source all
+range_found source is xs d all first last byte some found whole first_is byte_is last_is =
+    let range : ℕ → ℕ → Option LineRange = λ a b. Some (record { first = a; last = b }) in
+    ap (λ n. range n last) first_is ∙ (ap (λ n. range (line_of_byte source (get_or xs 0 d).byte) n) (last_is ∙ ap (line_of_byte source) byte_is) ∙ first_found source is xs d all some found whole)

@@ -16,10 +16,14 @@ same_part = sameb the_type
 abbrev pub part_inside : Bool → Bool → Option StatementPart
 part_inside event_list silent = if event_list then Some p.Awaited else (if silent then None else Some p.Read)
 
--- A name before `=` is written, and one with which a statement begins is assigned before `<=`.
+-- A name with which a statement begins is assigned before `<=`.
+abbrev pub is_assigned : Kind → Bool → Bool
+is_assigned next begins = same_kind next k.AtMost && begins
+
+-- A name before `=` is written; else it is assigned, or neither.
 abbrev pub part_of_name : Kind → Bool → Bool → Bool → Option StatementPart
 part_of_name next begins event_list silent =
-    if same_kind next k.Assign then Some p.Written else (if (same_kind next k.AtMost && begins) then Some p.Assigned else part_inside event_list silent)
+    if same_kind next k.Assign then Some p.Written else (if is_assigned next begins then Some p.Assigned else part_inside event_list silent)
 
 -- A name does so, a system name prints, strobes or finishes the run, and no other token does anything.
 abbrev pub part_at : Kind → Kind → Bool → Bool → Bool → Option StatementPart

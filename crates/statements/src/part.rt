@@ -25,6 +25,13 @@ pub(crate) fn is_part(one: StatementPart, other: StatementPart) -> bool
     one == other
 }
 
+/// Whether a name is assigned, by the kind of the token behind it and by whether a statement begins with it.
+fn is_assigned(next: Kind, begins: bool) -> bool
+    ensures { result ≡ parts.is_assigned next begins }
+{
+    is_kind(next, Kind::AtMost) && begins
+}
+
 /// What a name does, if it does something: by the kind of the token behind it, and by whether a statement begins with it, it
 /// stands in an event list, or nothing is done there.
 fn part_of_name(next: Kind, begins: bool, event_list: bool, silent: bool) -> Option<StatementPart>
@@ -33,7 +40,7 @@ fn part_of_name(next: Kind, begins: bool, event_list: bool, silent: bool) -> Opt
     if is_kind(next, Kind::Assign) {
         return Some(StatementPart::Written);
     }
-    if is_kind(next, Kind::AtMost) && begins {
+    if is_assigned(next, begins) {
         return Some(StatementPart::Assigned);
     }
     part_inside(event_list, silent)
