@@ -59,6 +59,12 @@ abbrev pub in_event_list : List Kind → Bool
 in_event_list [] = false
 in_event_list (t ∷ before) = (is_event_word t && in_event_list before) || (same_kind t k.Open && follows_at_sign before)
 
+-- A word behind which names are declared: that of a module, or those of registers.
+abbrev pub begins_declaration : Kind → Bool
+begins_declaration k.Module = true
+begins_declaration k.Reg = true
+begins_declaration t = false
+
 -- A token of a declaration, but for its first word and its end.
 abbrev pub is_declaration_word : Kind → Bool
 is_declaration_word k.Name = true
@@ -69,10 +75,10 @@ is_declaration_word k.Colon = true
 is_declaration_word k.CloseSquare = true
 is_declaration_word t = false
 
--- Registers are declared here: only tokens of a declaration stand between its word `reg` and here.
+-- Names are declared here: only tokens of a declaration stand between its first word and here.
 abbrev pub in_declaration : List Kind → Bool
 in_declaration [] = false
-in_declaration (t ∷ before) = same_kind t k.Reg || (is_declaration_word t && in_declaration before)
+in_declaration (t ∷ before) = begins_declaration t || (is_declaration_word t && in_declaration before)
 
 -- Here stands what a `$strobe` shows: no `;` stands between it and here.
 abbrev pub in_strobe : List Kind → Bool

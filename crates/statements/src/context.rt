@@ -6,7 +6,7 @@ ghost use Rattle.tokens.specs.declared.token.Kind.TheVariants as kinds;
 ghost use Rattle.tokens.specs.Tokens.{same_kind};
 ghost use Rattle.locations.specs.SourceLocations.{is_process};
 ghost use Rattle.locations.specs.TextLines.{most};
-ghost use Rattle.statements.specs.TokenContexts.{is_assigning, is_declaration_word, is_event_word, precedes_statement};
+ghost use Rattle.statements.specs.TokenContexts.{begins_declaration, is_assigning, is_declaration_word, is_event_word, precedes_statement};
 ghost use Rattle.statements.specs.Contexts.{IsContext};
 
 use locations::is_process;
@@ -27,7 +27,7 @@ pub(crate) struct TokenContext {
     pub(crate) begins: bool,
     /// Whether only words of an event list stand between `@ (` and here.
     pub(crate) event_list: bool,
-    /// Whether registers are declared here.
+    /// Whether names are declared here.
     pub(crate) declaration: bool,
     /// Whether a `$strobe` stands before, and no `;` behind it.
     pub(crate) strobe: bool,
@@ -139,11 +139,21 @@ fn is_declaration_word(kind: Kind) -> bool
     }
 }
 
+/// Whether names are declared behind a token of this kind.
+fn begins_declaration(kind: Kind) -> bool
+    ensures { result ≡ begins_declaration kind }
+{
+    match kind {
+        Kind::Module | Kind::Reg => true,
+        _ => false,
+    }
+}
+
 /// Whether a declaration begins or goes on behind a token of this kind.
 fn is_in_declaration(kind: Kind, declaration: bool) -> bool
-    ensures { result ≡ (same_kind kind kinds.Reg || (is_declaration_word kind && declaration)) }
+    ensures { result ≡ (begins_declaration kind || (is_declaration_word kind && declaration)) }
 {
-    is_kind(kind, Kind::Reg) || (is_declaration_word(kind) && declaration)
+    begins_declaration(kind) || (is_declaration_word(kind) && declaration)
 }
 
 /// Whether a `$strobe` begins or goes on behind a token of this kind.

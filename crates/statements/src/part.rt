@@ -1,6 +1,6 @@
 //! What a token does in its statement.
 
-ghost use Rattle.std.specs.Prelude.{◌≡◌, ◌||◌, true, false};
+ghost use Rattle.std.specs.Prelude.{◌≡◌};
 ghost use Rattle.statements.specs.Parts as parts;
 
 use tokens::token::{Kind, is_kind};

@@ -5,7 +5,7 @@ use Rattle.tokens.specs.declared.token.Kind.TheVariants as k
 use Rattle.tokens.specs.Tokens.{same_kind}
 use Rattle.locations.specs.SourceLocations.{is_process}
 use Rattle.locations.specs.TextLines.{most}
-use Rattle.statements.specs.TokenContexts.{is_declaration_word, is_event_word, precedes_statement, in_event_list}
+use Rattle.statements.specs.TokenContexts.{begins_declaration, is_declaration_word, is_event_word, precedes_statement, in_event_list}
 use Rattle.statements.proofs.context.TokenContext.behind.Goals as goal
 
 pub returns : goal.returns
@@ -19,6 +19,6 @@ returns c = λ before is.
       begins_is = c.begins_behind.ensures ∙ ap (λ b. precedes_statement kind || (same_kind kind k.Decimal && b)) is.delay_sign_is;
       event_list_is = c.is_in_event_list.ensures
           ∙ (ap (λ b. (is_event_word kind && b) || (same_kind kind k.Open && c.args.self.at_sign)) is.event_list_is ∙ ap (λ b. (is_event_word kind && in_event_list before) || (same_kind kind k.Open && b)) is.at_sign_is);
-      declaration_is = c.is_in_declaration.ensures ∙ ap (λ b. same_kind kind k.Reg || (is_declaration_word kind && b)) is.declaration_is;
+      declaration_is = c.is_in_declaration.ensures ∙ ap (λ b. begins_declaration kind || (is_declaration_word kind && b)) is.declaration_is;
       strobe_is = c.is_in_strobe.ensures ∙ ap (λ b. same_kind kind k.Strobe || (not (same_kind kind k.Semicolon) && b)) is.strobe_is;
     }
