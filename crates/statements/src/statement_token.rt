@@ -69,10 +69,11 @@ fn add_token<'a>(
 ) -> Result<(), AllocError>
     ensures { OnOk result (map plain_statement_token found.new.items ≡ map plain_statement_token found.old.items ++ token_with context.processes (plain_spot spot.entry.now) (part_at spot.entry.now.token.kind next context.begins context.event_list (context.declaration || context.strobe))) }
 {
-    match part_behind(context, spot.token.kind, next) {
-        Some(part) => push_token(found, context.processes, part, spot),
-        None => Ok(()),
-    }
+    let part = match part_behind(context, spot.token.kind, next) {
+        Some(part) => part,
+        None => return Ok(()),
+    };
+    push_token(found, context.processes, part, spot)
 }
 
 /// The tokens of a source that do something in a statement, in their order.

@@ -15,7 +15,7 @@ loop-left-preserved c =
     let i = c.loop-left.invariant in (
       _ ∷ i.0,
       (
-        c.behind.ensures i.0 i.1.0,
+        c.behind-context.ensures i.0 i.1.0,
         front_more c.loop-left.left.now _ i.0 c.loop-left.context c.next_kind.result _ _ _ (omega (arith, c.in-len1-up.len_at_least)) i.1.0 c.next_kind.ensures c.in_ok-add_token.ensures i.1.1,
       ),
     )
