@@ -27,11 +27,11 @@ last_more is (x ∷ xs) d byte next some more =
 -- where the front isn't looked for, those behind it are all
 pub others_more : (is : PlainStatementToken → Bool) (xs : List StatementToken) (d : StatementToken) (all : List PlainStatementToken) → 1 ≤ length xs → is (plain_statement_token (get_or xs 0 d)) ≡ false
     → filter is (map plain_statement_token xs) ≡ all → filter is (map plain_statement_token (take (length xs - 1) (drop 1 xs))) ≡ all
-others_more is [] d all some no whole = absurd (omega arith)
-others_more is (x ∷ xs) d all some no whole =
+others_more is [] d all some other whole = absurd (omega arith)
+others_more is (x ∷ xs) d all some other whole =
     let short : length xs ≤ length (x ∷ xs) - 1 = omega arith in
     let behind = filter is (map plain_statement_token xs) in
-    let same : filter is (map plain_statement_token (x ∷ xs)) ≡ behind = ap (λ b. cond b (plain_statement_token x ∷ behind) behind) no in
+    let same : filter is (map plain_statement_token (x ∷ xs)) ≡ behind = ap (λ b. cond b (plain_statement_token x ∷ behind) behind) other in
     ap (λ (ys : List StatementToken). filter is (map plain_statement_token ys)) (take_all (length (x ∷ xs) - 1) xs short) ∙ (sym same ∙ whole)
 
 -- where the front is looked for, it is the first one

@@ -18,17 +18,17 @@ part_inside event_list silent = if event_list then Some p.Awaited else (if silen
 
 -- A name with which a statement begins is assigned before `<=`.
 abbrev pub is_assigned : Kind → Bool → Bool
-is_assigned next begins = same_kind next k.AtMost && begins
+is_assigned follower begins = same_kind follower k.AtMost && begins
 
 -- A name before `=` is written; else it is assigned, or neither.
 abbrev pub part_of_name : Kind → Bool → Bool → Bool → Option StatementPart
-part_of_name next begins event_list silent =
-    if same_kind next k.Assign then Some p.Written else (if is_assigned next begins then Some p.Assigned else part_inside event_list silent)
+part_of_name follower begins event_list silent =
+    if same_kind follower k.Assign then Some p.Written else (if is_assigned follower begins then Some p.Assigned else part_inside event_list silent)
 
 -- A name does so, a system name prints, strobes or finishes the run, and no other token does anything.
 abbrev pub part_at : Kind → Kind → Bool → Bool → Bool → Option StatementPart
-part_at k.Name next begins event_list silent = part_of_name next begins event_list silent
-part_at k.Display next begins event_list silent = Some p.Printing
-part_at k.Strobe next begins event_list silent = Some p.Strobing
-part_at k.Finish next begins event_list silent = Some p.Finishing
-part_at kind next begins event_list silent = None
+part_at k.Name follower begins event_list silent = part_of_name follower begins event_list silent
+part_at k.Display follower begins event_list silent = Some p.Printing
+part_at k.Strobe follower begins event_list silent = Some p.Strobing
+part_at k.Finish follower begins event_list silent = Some p.Finishing
+part_at kind follower begins event_list silent = None

@@ -13,5 +13,5 @@ loop-left-preserved c =
 pub returns-then-is_sought : goal.returns-then-is_sought
 returns-then-is_sought c =
     let sought = c.args.sought.now in
-    range_found c.args.source.now (is_sought sought.part sought.process (option_map (λ name. name.now) sought.name)) c.loop-left.left.now _ _ c.line_of_byte.result c.line_of_byte-2.result c.last_byte-last.result
-    (omega (arith, c.in-len1-up.len_at_least)) (sym c.is_sought.ensures ∙ c.if-is_sought.true) c.loop-left.invariant c.line_of_byte.ensures c.last_byte-last.ensures c.line_of_byte-2.ensures
+    range_found c.args.source.now (is_sought sought.part sought.process (option_map (λ name. name.now) sought.name)) c.loop-left.left.now _ _ c.line_of_byte.result c.line_of_byte-then-is_sought.result c.last_byte-last.result
+    (omega (arith, c.in-len1-up.len_at_least)) (sym c.is_sought.ensures ∙ c.if-is_sought.true) c.loop-left.invariant c.line_of_byte.ensures c.last_byte-last.ensures c.line_of_byte-then-is_sought.ensures
