@@ -1,4 +1,4 @@
-use Rattle.std.proofs.Common.{◌≡◌, ◌∙◌, ap, ◌+◌, ◌++◌, List, ℕ, arith, drop, take, length, option_map, sym, subst}
+use Rattle.std.proofs.Common.{◌≡◌, ◌∙◌, ap, ◌+◌, ◌++◌, List, ℕ, arith, drop, take, length, map, option_map, sym, subst}
 use Rattle.causes.specs.Causes.{numbered_causes}
 use Rattle.causes.specs.declared.parting_race.PartingRace.{PartingRace}
 use Rattle.races.specs.declared.told.Race.{Race}
