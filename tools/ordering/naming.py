@@ -10,7 +10,8 @@ from hostility.answers import called, shown
 from ordering.asking import Difference, write
 from ordering.tree import Module, Process, module_text
 
-ROLE = r"  process (\d+), (?:initial|always) at line \d+, ([a-z ]+)\n"
+# Each process of a design that is made here stands in one line, and so does all that it does.
+ROLE = r"  process (\d+), (?:initial|always) at line (\d+), ([a-z ]+?)(?: at line (\d+))?\n"
 ORDER = r"  the {} before the {}(?: \((\S+)\))?: .*\n"
 RACE = re.compile(r"race \d+: (.*), time (\d+)\n" + ROLE + ROLE + ORDER.format("first", "second") + ORDER.format("second", "first"))
 PRINTERS = re.compile(r"^at time \d+ the lines of processes (.*) come in another order in another run(?: \(\S+\))?$", re.MULTILINE)
@@ -22,12 +23,13 @@ MOST_ENTRIES = 2000
 
 
 class Race:
-    """A race, as it is told: its time, the numbers of its two processes, what each does, and the journals that are named."""
+    """A race, as it is told: its time, the numbers of its two processes, what each does, where each begins and does so, and the journals that are named."""
 
     def __init__(self, found):
         self.site, self.time = found[1], int(found[2])
-        self.first, self.second = (int(found[3]), found[4]), (int(found[5]), found[6])
-        self.journals = found[7], found[8]
+        self.first, self.second = (int(found[3]), found[5]), (int(found[7]), found[9])
+        self.lines = (found[5], found[4], found[6]), (found[9], found[8], found[10])
+        self.journals = found[11], found[12]
 
 
 def races_of(out):
@@ -36,6 +38,9 @@ def races_of(out):
     races = [Race(it) for it in RACE.finditer(text)]
     if len(races) != len(re.findall(r"^race \d+: ", text, re.MULTILINE)):
         raise Difference(f"races: lines on a race that aren't known: {text!r}")
+    for does, begins, line in (role for race in races for role in race.lines):
+        if line != (None if does == "takes a turn" else begins):
+            raise Difference(f"races: a process in line {begins} {does} in line {line}: {text!r}")
     return races
 
 

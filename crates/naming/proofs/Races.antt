@@ -17,8 +17,8 @@ use Rattle.runs.specs.declared.run.RunRecord.{RunRecord}
 use Rattle.conflicts.specs.declared.bounds.RaceBounds.{RaceBounds}
 use Rattle.verdict.specs.declared.race.RaceDescription.{RaceDescription}
 use Rattle.verdict.specs.RaceLines.{race_text, unnamed_text}
-use Rattle.locations.specs.declared.location.ProcessLocation.{ProcessLocation}
-use Rattle.naming.specs.Begins.{AreProcessesOf}
+use Rattle.naming.specs.SourcePlaces.{ArePlacesOf}
+use Rattle.naming.specs.declared.places.SourcePlaces.{SourcePlaces}
 use Rattle.naming.specs.LineOrders.{orders_text}
 use Rattle.naming.specs.TextOrders.{order_alone_text}
 use Rattle.naming.specs.UnseenRegisters.{unseen_text}
@@ -50,10 +50,10 @@ two : (old a b mid new : List ℕ) → mid ≡ old ++ a → new ≡ mid ++ b →
 two old a b mid new one last = last ∙ (ap (λ l. l ++ b) one ∙ append_assoc old a b)
 
 -- races were told, and others behind them
-pub tells_both : (begins : List ProcessLocation) (code : Compiled) (shown : List (Shown Entry End)) (prefix : Option (List ℕ)) (xs ys : List PartingRace) (old mid new : List ℕ) (before between after : ToldSoFar)
-    → TellsSome begins code shown prefix xs old mid before between → TellsSome begins code shown prefix ys mid new between after → TellsSome begins code shown prefix (xs ++ ys) old new before after
-tells_both begins code shown prefix xs ys old mid new before between after one other =
-    let IsTold : ℕ → PartingRace → RaceDescription → Type 0 = IsCauseTold begins code shown prefix in
+pub tells_both : (places : SourcePlaces) (code : Compiled) (shown : List (Shown Entry End)) (prefix : Option (List ℕ)) (xs ys : List PartingRace) (old mid new : List ℕ) (before between after : ToldSoFar)
+    → TellsSome places code shown prefix xs old mid before between → TellsSome places code shown prefix ys mid new between after → TellsSome places code shown prefix (xs ++ ys) old new before after
+tells_both places code shown prefix xs ys old mid new before between after one other =
+    let IsTold : ℕ → PartingRace → RaceDescription → Type 0 = IsCauseTold places code shown prefix in
     let both : numbered_causes (xs ++ ys) ≡ numbered_causes xs ++ numbered_causes ys = filter-append is_numbered xs ys in
     let orders : line_orders (xs ++ ys) ≡ line_orders xs ++ line_orders ys = filter-append (λ (cause : PartingRace). is_line_order cause.race.site) xs ys in
     let long : length (numbered_causes xs ++ numbered_causes ys) ≡ length (numbered_causes xs) + length (numbered_causes ys) = length-append (numbered_causes xs) (numbered_causes ys) in
@@ -70,20 +70,20 @@ tells_both begins code shown prefix xs ys old mid new before between after one o
     }
 
 -- none was told
-pub tells_nothing : (begins : List ProcessLocation) (code : Compiled) (shown : List (Shown Entry End)) (prefix : Option (List ℕ)) (old : List ℕ) (now : ToldSoFar) → TellsSome begins code shown prefix [] old old now now
-tells_nothing begins code shown prefix old now =
+pub tells_nothing : (places : SourcePlaces) (code : Compiled) (shown : List (Shown Entry End)) (prefix : Option (List ℕ)) (old : List ℕ) (now : ToldSoFar) → TellsSome places code shown prefix [] old old now now
+tells_nothing places code shown prefix old now =
     record { told = []; are_told = tt; new_is = sym (append-nil old); number_is = omega arith; kept = []; are_kept = tt; orders_is = sym (append-nil now.orders.items) }
 
 -- a race that has a number was told
-pub tells_numbered : (begins : List ProcessLocation) (code : Compiled) (shown : List (Shown Entry End)) (prefix : Option (List ℕ)) (original : RunRecord) (race : Race) (old new : List ℕ) (before after : ToldSoFar)
-    → is_line_order race.site ≡ false → TellsNumbered begins code shown prefix original race old new before after → TellsSome begins code shown prefix (parting_of original race ∷ []) old new before after
-tells_numbered begins code shown prefix original race old new before after is tells =
+pub tells_numbered : (places : SourcePlaces) (code : Compiled) (shown : List (Shown Entry End)) (prefix : Option (List ℕ)) (original : RunRecord) (race : Race) (old new : List ℕ) (before after : ToldSoFar)
+    → is_line_order race.site ≡ false → TellsNumbered places code shown prefix original race old new before after → TellsSome places code shown prefix (parting_of original race ∷ []) old new before after
+tells_numbered places code shown prefix original race old new before after is tells =
     let p : PartingRace = parting_of original race in
     let one : numbered_causes (p ∷ []) ≡ p ∷ [] = ap (λ (b : Bool). if not b then p ∷ [] else []) is in
     let none : line_orders (p ∷ []) ≡ [] = ap (λ (b : Bool). if b then p ∷ [] else []) is in
     record {
       told = tells.told ∷ [];
-      are_told = subst (λ (rs : List PartingRace). AreEachTold (IsCauseTold begins code shown prefix) before.number rs (tells.told ∷ [])) (sym one) (tells.is_told, tt);
+      are_told = subst (λ (rs : List PartingRace). AreEachTold (IsCauseTold places code shown prefix) before.number rs (tells.told ∷ [])) (sym one) (tells.is_told, tt);
       new_is = tells.new_is ∙ ap (λ l. old ++ l) (sym (append-nil (race_text tells.told)));
       number_is = subst (λ (rs : List PartingRace). after.number ≡ before.number + length rs) (sym one) tells.number_is;
       kept = [];
@@ -92,16 +92,16 @@ tells_numbered begins code shown prefix original race old new before after is te
     }
 
 -- a race for the order of lines was kept
-pub tells_order : (begins : List ProcessLocation) (code : Compiled) (shown : List (Shown Entry End)) (prefix : Option (List ℕ)) (original : RunRecord) (race : Race) (old : List ℕ) (before after : ToldSoFar)
-    → is_line_order race.site ≡ true → AddsOrder shown race before after → TellsSome begins code shown prefix (parting_of original race ∷ []) old old before after
-tells_order begins code shown prefix original race old before after is adds =
+pub tells_order : (places : SourcePlaces) (code : Compiled) (shown : List (Shown Entry End)) (prefix : Option (List ℕ)) (original : RunRecord) (race : Race) (old : List ℕ) (before after : ToldSoFar)
+    → is_line_order race.site ≡ true → AddsOrder shown race before after → TellsSome places code shown prefix (parting_of original race ∷ []) old old before after
+tells_order places code shown prefix original race old before after is adds =
     let p : PartingRace = parting_of original race in
     let none : numbered_causes (p ∷ []) ≡ [] = ap (λ (b : Bool). if not b then p ∷ [] else []) is in
     let one : line_orders (p ∷ []) ≡ p ∷ [] = ap (λ (b : Bool). if b then p ∷ [] else []) is in
     let still : after.number ≡ before.number + 0 = omega (arith, adds.number_is) in
     record {
       told = [];
-      are_told = subst (λ (rs : List PartingRace). AreEachTold (IsCauseTold begins code shown prefix) before.number rs []) (sym none) tt;
+      are_told = subst (λ (rs : List PartingRace). AreEachTold (IsCauseTold places code shown prefix) before.number rs []) (sym none) tt;
       new_is = sym (append-nil old);
       number_is = subst (λ (rs : List PartingRace). after.number ≡ before.number + length rs) (sym none) still;
       kept = adds.order ∷ [];
@@ -110,20 +110,20 @@ tells_order begins code shown prefix original race old before after is adds =
     }
 
 -- so it is, and there is one number more at most, where it was told or kept
-pub numbered_tells : {A E : Type 0} (r : Result A E) (begins : List ProcessLocation) (code : Compiled) (shown : List (Shown Entry End)) (prefix : Option (List ℕ)) (original : RunRecord) (race : Race) (old new : List ℕ) (before after : ToldSoFar)
-    → is_line_order race.site ≡ false → OnOk r (TellsNumbered begins code shown prefix original race old new before after) → OnOk r (TellsSome begins code shown prefix (parting_of original race ∷ []) old new before after)
-numbered_tells (Ok x) begins code shown prefix original race old new before after is tells = tells_numbered begins code shown prefix original race old new before after is tells
-numbered_tells (Err e) begins code shown prefix original race old new before after is tells = tt
+pub numbered_tells : {A E : Type 0} (r : Result A E) (places : SourcePlaces) (code : Compiled) (shown : List (Shown Entry End)) (prefix : Option (List ℕ)) (original : RunRecord) (race : Race) (old new : List ℕ) (before after : ToldSoFar)
+    → is_line_order race.site ≡ false → OnOk r (TellsNumbered places code shown prefix original race old new before after) → OnOk r (TellsSome places code shown prefix (parting_of original race ∷ []) old new before after)
+numbered_tells (Ok x) places code shown prefix original race old new before after is tells = tells_numbered places code shown prefix original race old new before after is tells
+numbered_tells (Err e) places code shown prefix original race old new before after is tells = tt
 
-pub order_tells : {A E : Type 0} (r : Result A E) (begins : List ProcessLocation) (code : Compiled) (shown : List (Shown Entry End)) (prefix : Option (List ℕ)) (original : RunRecord) (race : Race) (old : List ℕ) (before after : ToldSoFar)
-    → is_line_order race.site ≡ true → OnOk r (AddsOrder shown race before after) → OnOk r (TellsSome begins code shown prefix (parting_of original race ∷ []) old old before after)
-order_tells (Ok x) begins code shown prefix original race old before after is adds = tells_order begins code shown prefix original race old before after is adds
-order_tells (Err e) begins code shown prefix original race old before after is adds = tt
+pub order_tells : {A E : Type 0} (r : Result A E) (places : SourcePlaces) (code : Compiled) (shown : List (Shown Entry End)) (prefix : Option (List ℕ)) (original : RunRecord) (race : Race) (old : List ℕ) (before after : ToldSoFar)
+    → is_line_order race.site ≡ true → OnOk r (AddsOrder shown race before after) → OnOk r (TellsSome places code shown prefix (parting_of original race ∷ []) old old before after)
+order_tells (Ok x) places code shown prefix original race old before after is adds = tells_order places code shown prefix original race old before after is adds
+order_tells (Err e) places code shown prefix original race old before after is adds = tt
 
-pub numbered_few : {A E : Type 0} (r : Result A E) (begins : List ProcessLocation) (code : Compiled) (shown : List (Shown Entry End)) (prefix : Option (List ℕ)) (original : RunRecord) (race : Race) (old new : List ℕ) (before after : ToldSoFar)
-    → OnOk r (TellsNumbered begins code shown prefix original race old new before after) → OnOk r (after.number ≤ before.number + 1)
-numbered_few (Ok x) begins code shown prefix original race old new before after tells = omega (arith, tells.number_is)
-numbered_few (Err e) begins code shown prefix original race old new before after tells = tt
+pub numbered_few : {A E : Type 0} (r : Result A E) (places : SourcePlaces) (code : Compiled) (shown : List (Shown Entry End)) (prefix : Option (List ℕ)) (original : RunRecord) (race : Race) (old new : List ℕ) (before after : ToldSoFar)
+    → OnOk r (TellsNumbered places code shown prefix original race old new before after) → OnOk r (after.number ≤ before.number + 1)
+numbered_few (Ok x) places code shown prefix original race old new before after tells = omega (arith, tells.number_is)
+numbered_few (Err e) places code shown prefix original race old new before after tells = tt
 
 pub order_few : {A E : Type 0} (r : Result A E) (shown : List (Shown Entry End)) (race : Race) (before after : ToldSoFar) → OnOk r (AddsOrder shown race before after) → OnOk r (after.number ≤ before.number + 1)
 order_few (Ok x) shown race before after adds = omega (arith, adds.number_is)
@@ -149,59 +149,59 @@ three old a b c mid next new one other last =
     last ∙ (ap (λ l. l ++ c) (other ∙ ap (λ l. l ++ b) one) ∙ (append_assoc (old ++ a) b c ∙ append_assoc old a (b ++ c)))
 
 -- the lines on those for the order of lines, which were kept where none was before
-orders_told : (begins : List ProcessLocation) (code : Compiled) (shown : List (Shown Entry End)) (prefix : Option (List ℕ)) (races : List PartingRace) (old mid next : List ℕ) (before after : ToldSoFar)
-    → before.orders.items ≡ [] → (some : TellsSome begins code shown prefix races old mid before after) → next ≡ mid ++ orders_text begins prefix after.orders.items → next ≡ mid ++ orders_text begins prefix some.kept
-orders_told begins code shown prefix races old mid next before after none some at =
-    at ∙ ap (λ (os : List LineOrder). mid ++ orders_text begins prefix os) (some.orders_is ∙ ap (λ (l : List LineOrder). l ++ some.kept) none)
+orders_told : (places : SourcePlaces) (code : Compiled) (shown : List (Shown Entry End)) (prefix : Option (List ℕ)) (races : List PartingRace) (old mid next : List ℕ) (before after : ToldSoFar)
+    → before.orders.items ≡ [] → (some : TellsSome places code shown prefix races old mid before after) → next ≡ mid ++ orders_text places.processes.now prefix after.orders.items → next ≡ mid ++ orders_text places.processes.now prefix some.kept
+orders_told places code shown prefix races old mid next before after none some at =
+    at ∙ ap (λ (os : List LineOrder). mid ++ orders_text places.processes.now prefix os) (some.orders_is ∙ ap (λ (l : List LineOrder). l ++ some.kept) none)
 
 -- the lines on races that part texts, on each race of a first run, and then by what their list was cut
-pub tells_behind : {A E : Type 0} (r : Result A E) (source : List ℕ) (begins : List ProcessLocation) (code : Compiled) (shown : List (Shown Entry End)) (prefix : Option (List ℕ)) (race_bounds : RaceBounds) (found : Found) (causes : List PartingRace) (old mid next new : List ℕ) (before after : ToldSoFar)
-    → AreProcessesOf source begins → before.number ≡ 0 + 1 → before.orders.items ≡ [] → TellsSome begins code shown prefix (all_races causes found) old mid before after
-    → next ≡ mid ++ orders_text begins prefix after.orders.items → OnOk r (new ≡ next ++ list_end_text race_bounds found.cut) → OnOk r (TellsBehind source code shown prefix race_bounds found causes old new)
-tells_behind (Ok x) source begins code shown prefix race_bounds found causes old mid next new before after of_source first none some orders at = record {
-  lines = races_text some.told ++ (orders_text begins prefix some.kept ++ list_end_text race_bounds found.cut);
+pub tells_behind : {A E : Type 0} (r : Result A E) (source : List ℕ) (places : SourcePlaces) (code : Compiled) (shown : List (Shown Entry End)) (prefix : Option (List ℕ)) (race_bounds : RaceBounds) (found : Found) (causes : List PartingRace) (old mid next new : List ℕ) (before after : ToldSoFar)
+    → ArePlacesOf source places → before.number ≡ 0 + 1 → before.orders.items ≡ [] → TellsSome places code shown prefix (all_races causes found) old mid before after
+    → next ≡ mid ++ orders_text places.processes.now prefix after.orders.items → OnOk r (new ≡ next ++ list_end_text race_bounds found.cut) → OnOk r (TellsBehind source code shown prefix race_bounds found causes old new)
+tells_behind (Ok x) source places code shown prefix race_bounds found causes old mid next new before after of_source first none some orders at = record {
+  lines = races_text some.told ++ (orders_text places.processes.now prefix some.kept ++ list_end_text race_bounds found.cut);
   tells = record {
-    begins = begins;
+    places = places;
     of_source = of_source;
     told = some.told;
-    are_told = subst (λ n. AreEachTold (IsCauseTold begins code shown prefix) n (numbered_causes (all_races causes found)) some.told) first some.are_told;
+    are_told = subst (λ n. AreEachTold (IsCauseTold places code shown prefix) n (numbered_causes (all_races causes found)) some.told) first some.are_told;
     kept = some.kept;
     are_kept = some.are_kept;
     lines_is = refl;
   };
-  new_is = three old (races_text some.told) (orders_text begins prefix some.kept) (list_end_text race_bounds found.cut) mid next new some.new_is
-      (orders_told begins code shown prefix (all_races causes found) old mid next before after none some orders) at;
+  new_is = three old (races_text some.told) (orders_text places.processes.now prefix some.kept) (list_end_text race_bounds found.cut) mid next new some.new_is
+      (orders_told places code shown prefix (all_races causes found) old mid next before after none some orders) at;
 }
-tells_behind (Err x) source begins code shown prefix race_bounds found causes old mid next new before after of_source first none some orders at = tt
+tells_behind (Err x) source places code shown prefix race_bounds found causes old mid next new before after of_source first none some orders at = tt
 
 four : (old a b c d mid next last new : List ℕ) → mid ≡ old ++ a → next ≡ mid ++ b → last ≡ next ++ c → new ≡ last ++ d → new ≡ old ++ (a ++ (b ++ (c ++ d)))
 four old a b c d mid next last new one other third end =
     three old a b (c ++ d) mid next new one other (end ∙ (ap (λ l. l ++ d) third ∙ append_assoc next c d))
 
 -- the lines on further races that part texts, on texts for which none was found, by what their list was cut, whether the texts differ only in the order of lines, and on registers that differ
-pub tells_more_behind : {A E : Type 0} (r : Result A E) (source : List ℕ) (begins : List ProcessLocation) (code : Compiled) (shown : List (Shown Entry End)) (prefix : Option (List ℕ)) (race_bounds : RaceBounds) (found : Found) (early : ℕ) (causes : Causes) (old mid next last end said new : List ℕ) (before after : ToldSoFar)
-    → AreProcessesOf source begins → before.number ≡ numbered_before found early causes.causes.items + 1 → before.orders.items ≡ [] → TellsSome begins code shown prefix (drop early causes.causes.items) old mid before after
-    → next ≡ mid ++ orders_text begins prefix after.orders.items → last ≡ next ++ unnamed_lines causes.unnamed.items → end ≡ last ++ list_end_text race_bounds causes.cut
+pub tells_more_behind : {A E : Type 0} (r : Result A E) (source : List ℕ) (places : SourcePlaces) (code : Compiled) (shown : List (Shown Entry End)) (prefix : Option (List ℕ)) (race_bounds : RaceBounds) (found : Found) (early : ℕ) (causes : Causes) (old mid next last end said new : List ℕ) (before after : ToldSoFar)
+    → ArePlacesOf source places → before.number ≡ numbered_before found early causes.causes.items + 1 → before.orders.items ≡ [] → TellsSome places code shown prefix (drop early causes.causes.items) old mid before after
+    → next ≡ mid ++ orders_text places.processes.now prefix after.orders.items → last ≡ next ++ unnamed_lines causes.unnamed.items → end ≡ last ++ list_end_text race_bounds causes.cut
     → TellsAlone code shown end said → OnOk r (new ≡ said ++ unseen_text code (length shown) found.unseen) → OnOk r (TellsMoreBehind source code shown prefix race_bounds found early causes old new)
-tells_more_behind (Ok x) source begins code shown prefix race_bounds found early causes old mid next last end said new before after of_source first none some orders unnamed cut alone seen =
+tells_more_behind (Ok x) source places code shown prefix race_bounds found early causes old mid next last end said new before after of_source first none some orders unnamed cut alone seen =
     let ended : List ℕ = list_end_text race_bounds causes.cut in
     let words : List ℕ = order_alone_text alone.alone in
     let names : List ℕ = unseen_text code (length shown) found.unseen in
     record {
-      lines = races_text some.told ++ (orders_text begins prefix some.kept ++ (unnamed_lines causes.unnamed.items ++ (ended ++ (words ++ names))));
+      lines = races_text some.told ++ (orders_text places.processes.now prefix some.kept ++ (unnamed_lines causes.unnamed.items ++ (ended ++ (words ++ names))));
       tells = record {
-        begins = begins;
+        places = places;
         of_source = of_source;
         told = some.told;
-        are_told = subst (λ n. AreEachTold (IsCauseTold begins code shown prefix) n (numbered_causes (drop early causes.causes.items)) some.told) first some.are_told;
+        are_told = subst (λ n. AreEachTold (IsCauseTold places code shown prefix) n (numbered_causes (drop early causes.causes.items)) some.told) first some.are_told;
         kept = some.kept;
         are_kept = some.are_kept;
         alone = alone.alone;
         is_alone = alone.is_alone;
         lines_is = refl;
       };
-      new_is = four old (races_text some.told) (orders_text begins prefix some.kept) (unnamed_lines causes.unnamed.items) (ended ++ (words ++ names)) mid next last new some.new_is
-          (orders_told begins code shown prefix (drop early causes.causes.items) old mid next before after none some orders) unnamed
+      new_is = four old (races_text some.told) (orders_text places.processes.now prefix some.kept) (unnamed_lines causes.unnamed.items) (ended ++ (words ++ names)) mid next last new some.new_is
+          (orders_told places code shown prefix (drop early causes.causes.items) old mid next before after none some orders) unnamed
           (three last ended words names end said new cut alone.new_is seen);
     }
-tells_more_behind (Err x) source begins code shown prefix race_bounds found early causes old mid next last end said new before after of_source first none some orders unnamed cut alone seen = tt
+tells_more_behind (Err x) source places code shown prefix race_bounds found early causes old mid next last end said new before after of_source first none some orders unnamed cut alone seen = tt

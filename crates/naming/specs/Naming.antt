@@ -19,22 +19,32 @@ use Rattle.verdict.specs.VerdictLines.{IsFirstDifference, HaveSameLines}
 use Rattle.verdict.specs.declared.race.RaceDescription.{RaceDescription}
 use Rattle.verdict.specs.declared.race.RoleDescription.{RoleDescription}
 use Rattle.verdict.specs.declared.race.RunDescription.{RunDescription}
+use Rattle.verdict.specs.declared.race.SiteDescription.{SiteDescription}
 use Rattle.verdict.specs.RaceLines.{prefix_of, race_text, unnamed_text}
 use Rattle.verdict.specs.CutLines.{cut_text}
-use Rattle.locations.specs.declared.location.ProcessLocation.{ProcessLocation}
-use Rattle.naming.specs.Begins.{AreProcessesOf, begin_of}
+use Rattle.naming.specs.Begins.{begin_of}
+use Rattle.naming.specs.SourcePlaces.{ArePlacesOf}
+use Rattle.naming.specs.declared.places.SourcePlaces.{SourcePlaces}
+use Rattle.naming.specs.declared.naming.RaceWords.{RaceWords}
 use Rattle.naming.specs.declared.naming.ToldSoFar.{ToldSoFar}
 use Rattle.naming.specs.declared.line_orders.LineOrder.{LineOrder}
 use Rattle.naming.specs.LineOrders.{orders_text}
 use Rattle.naming.specs.TextOrders.{DifferInOrder, order_alone_text}
 use Rattle.naming.specs.UnseenRegisters.{unseen_text}
-use Rattle.naming.specs.RaceWords.{cut_of, access_word, IsSiteTold}
+use Rattle.naming.specs.RaceWords.{cut_of, IsSiteTold}
+use Rattle.naming.specs.RoleWords.{role_words}
 
--- a process is told by its number, where it begins among these, and what it does in words
-pub record IsRoleTold (begins : List ProcessLocation) (role : found_role.Role) (told : RoleDescription) : Type 0 where
+-- a process is told by its number, where it begins, and what it does at this site, in words and with the lines between which it does so, where they are known
+pub record IsRoleTold (places : SourcePlaces) (site : SiteDescription) (role : found_role.Role) (told : RoleDescription) : Type 0 where
   pub number : told.number ≡ role.process
-  pub begin : told.begins ≡ begin_of begins role.process
-  pub does : told.does.now ≡ access_word role.does
+  pub begin : told.begins ≡ begin_of places.processes.now role.process
+  pub does : told.does.now ≡ role_words places site role
+
+-- A race is so in words: what it is for, and what its two processes do.
+pub record AreWordsOf (places : SourcePlaces) (code : Compiled) (race : found_race.Race) (words : RaceWords) : Type 0 where
+  pub site_is : IsSiteTold code race.site words.site
+  pub first_is : words.first.now ≡ role_words places words.site race.first
+  pub second_is : words.second.now ≡ role_words places words.site race.second
 
 -- the first line in which two texts differ, or none where they have the same lines
 abbrev pub IsDifferenceTold : List ℕ → List ℕ → Option ℕ → List ℕ → List ℕ → Type 0
@@ -55,12 +65,12 @@ abbrev pub IsRunTold : List (Shown Entry End) → RunRecord → RunDescription �
 IsRunTold shown run told = IsJournalTold shown run told.journal
 
 -- A race is told with a number: for what, when, by whom, and by the two runs.
-pub record IsRaceTold (begins : List ProcessLocation) (code : Compiled) (shown : List (Shown Entry End)) (prefix : Option (List ℕ)) (original : RunRecord) (number : ℕ) (race : found_race.Race) (told : RaceDescription) : Type 0 where
+pub record IsRaceTold (places : SourcePlaces) (code : Compiled) (shown : List (Shown Entry End)) (prefix : Option (List ℕ)) (original : RunRecord) (number : ℕ) (race : found_race.Race) (told : RaceDescription) : Type 0 where
   pub number_is : told.number ≡ number
   pub site : IsSiteTold code race.site told.site
   pub time_is : told.time ≡ race.time
-  pub first : IsRoleTold begins race.first told.first
-  pub second : IsRoleTold begins race.second told.second
+  pub first : IsRoleTold places told.site race.first told.first
+  pub second : IsRoleTold places told.site race.second told.second
   pub prefix_is : prefix_of told ≡ prefix
   pub difference : IsDifferenceTold (string_bytes original.lines) (string_bytes race.exchanged.lines) told.line told.original.line.now told.exchanged.line.now
   pub one : IsRunTold shown original told.original
@@ -74,8 +84,8 @@ AreEachTold IsTold number [] (t ∷ ts) = ⊥
 AreEachTold IsTold number (x ∷ xs) (t ∷ ts) = IsTold number x t × AreEachTold IsTold (number + 1) xs ts
 
 -- a race that parts texts is told with a number, by both of its runs
-abbrev pub IsCauseTold : List ProcessLocation → Compiled → List (Shown Entry End) → Option (List ℕ) → ℕ → PartingRace → RaceDescription → Type 0
-IsCauseTold begins code shown prefix number cause told = IsRaceTold begins code shown prefix cause.original number cause.race told
+abbrev pub IsCauseTold : SourcePlaces → Compiled → List (Shown Entry End) → Option (List ℕ) → ℕ → PartingRace → RaceDescription → Type 0
+IsCauseTold places code shown prefix number cause told = IsRaceTold places code shown prefix cause.original number cause.race told
 
 -- the lines on races
 abbrev pub races_text : List RaceDescription → List ℕ
@@ -130,34 +140,35 @@ pub record AddsOrder (shown : List (Shown Entry End)) (race : found_race.Race) (
   pub number_is : after.number ≡ before.number
 
 -- a text has grown by the lines on a race, with the next number
-pub record TellsNumbered (begins : List ProcessLocation) (code : Compiled) (shown : List (Shown Entry End)) (prefix : Option (List ℕ)) (original : RunRecord) (race : found_race.Race) (old new : List ℕ) (before after : ToldSoFar) : Type 0 where
+pub record TellsNumbered (places : SourcePlaces) (code : Compiled) (shown : List (Shown Entry End)) (prefix : Option (List ℕ)) (original : RunRecord) (race : found_race.Race) (old new : List ℕ) (before after : ToldSoFar) : Type 0 where
   pub told : RaceDescription
-  pub is_told : IsRaceTold begins code shown prefix original before.number race told
+  pub is_told : IsRaceTold places code shown prefix original before.number race told
   pub new_is : new ≡ old ++ race_text told
   pub number_is : after.number ≡ before.number + 1
   pub orders_is : after.orders.items ≡ before.orders.items
 
 -- A text has grown by the lines on those of some races that have a number, from the next one on, and the others, which are for the order of lines, were kept.
-pub record TellsSome (begins : List ProcessLocation) (code : Compiled) (shown : List (Shown Entry End)) (prefix : Option (List ℕ)) (races : List PartingRace) (old new : List ℕ) (before after : ToldSoFar) : Type 0 where
+pub record TellsSome (places : SourcePlaces) (code : Compiled) (shown : List (Shown Entry End)) (prefix : Option (List ℕ)) (races : List PartingRace) (old new : List ℕ) (before after : ToldSoFar) : Type 0 where
   pub told : List RaceDescription
-  pub are_told : AreEachTold (IsCauseTold begins code shown prefix) before.number (numbered_causes races) told
+  pub are_told : AreEachTold (IsCauseTold places code shown prefix) before.number (numbered_causes races) told
   pub new_is : new ≡ old ++ races_text told
   pub number_is : after.number ≡ before.number + length (numbered_causes races)
   pub kept : List LineOrder
   pub are_kept : AreOrdersOf shown (line_orders races) kept
   pub orders_is : after.orders.items ≡ before.orders.items ++ kept
 
--- What was found in the design of a source is told in these lines: races that part texts, and behind them those of a first run, each process by where it begins.
+-- What was found in the design of a source is told in these lines: races that part texts, and behind them those of a first run, each process by where it begins and by the lines
+-- between which it does what it is told for, where these are known.
 -- Those that aren't for the order of lines come first, one after another, with numbers, and then one line for each time of the others. Behind them stands by what the
 -- list of the first run's was cut, if it was.
 pub record TellsRaces (source : List ℕ) (code : Compiled) (shown : List (Shown Entry End)) (prefix : Option (List ℕ)) (race_bounds : RaceBounds) (found : Found) (causes : List PartingRace) (lines : List ℕ) : Type 0 where
-  pub begins : List ProcessLocation
-  pub of_source : AreProcessesOf source begins
+  pub places : SourcePlaces
+  pub of_source : ArePlacesOf source places
   pub told : List RaceDescription
-  pub are_told : AreEachTold (IsCauseTold begins code shown prefix) 1 (numbered_causes (all_races causes found)) told
+  pub are_told : AreEachTold (IsCauseTold places code shown prefix) 1 (numbered_causes (all_races causes found)) told
   pub kept : List LineOrder
   pub are_kept : AreOrdersOf shown (line_orders (all_races causes found)) kept
-  pub lines_is : lines ≡ races_text told ++ (orders_text begins prefix kept ++ list_end_text race_bounds found.cut)
+  pub lines_is : lines ≡ races_text told ++ (orders_text places.processes.now prefix kept ++ list_end_text race_bounds found.cut)
 
 -- a text has grown by lines that tell what was found
 pub record TellsBehind (source : List ℕ) (code : Compiled) (shown : List (Shown Entry End)) (prefix : Option (List ℕ)) (race_bounds : RaceBounds) (found : Found) (causes : List PartingRace) (old new : List ℕ) : Type 0 where
@@ -179,15 +190,15 @@ pub record TellsAlone (code : Compiled) (shown : List (Shown Entry End)) (old ne
 -- then one line for each time of those for the order of lines, for which texts none was found, and by what their list was cut. The next line says that the texts differ only
 -- in the order of lines at one time, where it stands, and then they do. The last one stands where one text is told, and names registers that differ in two runs which print it.
 pub record TellsMore (source : List ℕ) (code : Compiled) (shown : List (Shown Entry End)) (prefix : Option (List ℕ)) (race_bounds : RaceBounds) (found : Found) (before : ℕ) (causes : Causes) (lines : List ℕ) : Type 0 where
-  pub begins : List ProcessLocation
-  pub of_source : AreProcessesOf source begins
+  pub places : SourcePlaces
+  pub of_source : ArePlacesOf source places
   pub told : List RaceDescription
-  pub are_told : AreEachTold (IsCauseTold begins code shown prefix) (numbered_before found before causes.causes.items + 1) (numbered_causes (drop before causes.causes.items)) told
+  pub are_told : AreEachTold (IsCauseTold places code shown prefix) (numbered_before found before causes.causes.items + 1) (numbered_causes (drop before causes.causes.items)) told
   pub kept : List LineOrder
   pub are_kept : AreOrdersOf shown (line_orders (drop before causes.causes.items)) kept
   pub alone : Bool
   pub is_alone : IsTrue alone → DifferInOrder code shown
-  pub lines_is : lines ≡ races_text told ++ (orders_text begins prefix kept ++ (unnamed_lines causes.unnamed.items ++ (list_end_text race_bounds causes.cut ++ (order_alone_text alone ++ unseen_text code (length shown) found.unseen))))
+  pub lines_is : lines ≡ races_text told ++ (orders_text places.processes.now prefix kept ++ (unnamed_lines causes.unnamed.items ++ (list_end_text race_bounds causes.cut ++ (order_alone_text alone ++ unseen_text code (length shown) found.unseen))))
 
 -- a text has grown by such lines
 pub record TellsMoreBehind (source : List ℕ) (code : Compiled) (shown : List (Shown Entry End)) (prefix : Option (List ℕ)) (race_bounds : RaceBounds) (found : Found) (before : ℕ) (causes : Causes) (old new : List ℕ) : Type 0 where

@@ -1,7 +1,8 @@
 //! The races of a design, in lines.
 //!
 //! `push_races` puts the races that the crates `races` and `causes` found behind a text, in the words of `verdict`: the register by its name, each
-//! process by the line in which it begins, the line in which the two runs differ, and the numbers of their journals. Races for the order of
+//! process by the line in which it begins (`places`) and by what it does, with the lines of that (`role_words`), the line in which the two runs differ,
+//! and the numbers of their journals. Races for the order of
 //! lines come behind them, in one line for each time (`line_orders`), and then by what the list of races was cut, if it was.
 //!
 //! `push_more_races` does so with races that were found later, and says where texts differ only in the order of lines at one time (`alone`),
@@ -14,6 +15,8 @@
 mod alone;
 mod line_orders;
 mod naming;
+mod places;
+mod role_words;
 mod unseen;
 mod words;
 

@@ -2,12 +2,14 @@
 ghost use Rattle.std.specs.Prelude.{◌≡◌, ◌≢◌, ◌↔◌, ◌≤◌, ◌<◌, ◌+◌, ◌++◌, ◌∷◌, [], length, map, IfOk, IsTrue, OnOk, option_map, string_bytes};
 ghost use Rattle.tokens.specs.declared.cut.CutFault.TheVariants as faults;
 ghost use Rattle.naming.specs.Begins.{AreProcessesOf, begin_of};
-ghost use Rattle.naming.specs.Naming.{AddsOrder, HasJournal, IsDifferenceTold, IsJournalTold, IsOrderOf, IsRaceTold, IsRoleTold, TellsBehind, TellsMoreBehind, TellsAlone, TellsNumbered, TellsSome, list_end_text, numbered_races, parting_of, unnamed_lines};
+ghost use Rattle.naming.specs.Naming.{AddsOrder, AreWordsOf, HasJournal, IsDifferenceTold, IsJournalTold, IsOrderOf, IsRaceTold, TellsBehind, TellsMoreBehind, TellsAlone, TellsNumbered, TellsSome, list_end_text, numbered_races, parting_of, unnamed_lines};
 
 use crate::alone::{differ_in_order, order_alone_line};
 use crate::line_orders::{LineOrder, push_orders};
+use crate::places::{SourcePlaces, places_with, statements_of};
+use crate::role_words::role_words;
 use crate::unseen::push_unseen;
-use crate::words::{cut_of, site_of, word_of};
+use crate::words::{cut_of, site_of};
 use accesses::are_same;
 use causes::{Causes, PartingRace, numbered_count};
 use conflicts::{Bound, RaceBounds};
@@ -21,8 +23,8 @@ use runs::run::RunRecord;
 use std::alloc::{AllocError, Global};
 use tokens::cut::CutFault;
 use verdict::{
-    ProcessDescription, RaceDescription, RoleDescription, RunDescription, first_difference,
-    push_cut, push_race, push_unnamed,
+    ProcessDescription, RaceDescription, RoleDescription, RunDescription, SiteDescription,
+    first_difference, push_cut, push_race, push_unnamed,
 };
 
 /// What races are named by: the source, its design, the bounds within which they were looked for, and the texts that are known, of which
@@ -44,6 +46,14 @@ struct Lines<'a> {
     other: &'a [u8],
 }
 
+/// A race in words: what it is for, and what its two processes do.
+#[derive(Clone, Copy)]
+struct RaceWords<'a> {
+    site: SiteDescription<'a>,
+    first: &'a str,
+    second: &'a str,
+}
+
 /// How far races were told: the number of the next one, and those for the order of lines, which have none and are told behind the others.
 #[derive(Drop)]
 struct ToldSoFar {
@@ -63,11 +73,20 @@ pub fn push_races<'a>(
     ensures { OnOk result (TellsBehind names.entry.now.source.now names.entry.now.design.now names.entry.now.shown.now (option_map (λ path. path.now) names.entry.now.prefix) names.entry.now.race_bounds found.entry.now causes.entry.now text.old.items text.new.items) }
 {
     let processes = processes_of(alloc, names.source)?;
+    let statements = statements_of(alloc, names.source)?;
     let begins = processes.as_slice();
+    let tokens = statements.as_slice();
+    let places = places_with(alloc, names.source, begins, tokens);
     let mut told = told_before(alloc, 0);
-    push_parting(text, &mut told, names, begins, causes)?;
-    push_each(text, &mut told, names, begins, found)?;
-    push_orders(alloc, text, begins, names.prefix, told.orders.as_slice())?;
+    push_parting(text, &mut told, names, &places, causes)?;
+    push_each(text, &mut told, names, &places, found)?;
+    push_orders(
+        alloc,
+        text,
+        places.processes,
+        names.prefix,
+        told.orders.as_slice(),
+    )?;
     push_end(text, names.race_bounds, found.cut)
 }
 
@@ -97,12 +116,21 @@ pub fn push_more_races<'a>(
     ensures { OnOk result (TellsMoreBehind names.entry.now.source.now names.entry.now.design.now names.entry.now.shown.now (option_map (λ path. path.now) names.entry.now.prefix) names.entry.now.race_bounds found.now before causes.entry.now text.old.items text.new.items) }
 {
     let processes = processes_of(alloc, names.source)?;
+    let statements = statements_of(alloc, names.source)?;
     let begins = processes.as_slice();
+    let tokens = statements.as_slice();
+    let places = places_with(alloc, names.source, begins, tokens);
     let (early, more) = causes.causes.as_slice().split_at(before);
     let numbered = numbered_found(found.races.as_slice()) + numbered_count(early);
     let mut told = told_before(alloc, numbered);
-    push_parting(text, &mut told, names, begins, more)?;
-    push_orders(alloc, text, begins, names.prefix, told.orders.as_slice())?;
+    push_parting(text, &mut told, names, &places, more)?;
+    push_orders(
+        alloc,
+        text,
+        places.processes,
+        names.prefix,
+        told.orders.as_slice(),
+    )?;
     push_unnamed_texts(text, causes.unnamed.as_slice())?;
     push_end(text, names.race_bounds, causes.cut)?;
     push_alone(alloc, text, names.design, names.shown)?;
@@ -136,16 +164,16 @@ fn push_parting<'a>(
     text: &mut Vec<u8>,
     told: &mut ToldSoFar,
     names: &RaceNames<'a>,
-    processes: &[locations::ProcessLocation],
+    places: &SourcePlaces<'_>,
     causes: &'a [PartingRace],
 ) -> Result<(), AllocError>
     requires { told.old.number + length causes.now ≤ 18446744073709551615 }
-    ensures tells { OnOk result (TellsSome processes.now names.entry.now.design.now names.entry.now.shown.now (option_map (λ path. path.now) names.entry.now.prefix) causes.entry.now text.old.items text.new.items told.old told.new) }
+    ensures tells { OnOk result (TellsSome places.now names.entry.now.design.now names.entry.now.shown.now (option_map (λ path. path.now) names.entry.now.prefix) causes.entry.now text.old.items text.new.items told.old told.new) }
     ensures few { OnOk result (told.new.number ≤ told.old.number + length causes.now) }
 {
     for place in 0..causes.len() {
         let cause = &causes[place];
-        push_told(text, told, names, processes, &cause.original, &cause.race)?;
+        push_told(text, told, names, places, &cause.original, &cause.race)?;
     }
     Ok(())
 }
@@ -156,18 +184,18 @@ fn push_told<'a>(
     text: &mut Vec<u8>,
     told: &mut ToldSoFar,
     names: &RaceNames<'a>,
-    processes: &[locations::ProcessLocation],
+    places: &SourcePlaces<'_>,
     original: &'a RunRecord,
     race: &'a Race,
 ) -> Result<(), AllocError>
     requires { told.old.number < 18446744073709551615 }
-    ensures tells { OnOk result (TellsSome processes.now names.entry.now.design.now names.entry.now.shown.now (option_map (λ path. path.now) names.entry.now.prefix) (parting_of original.entry.now race.entry.now ∷ []) text.old.items text.new.items told.old told.new) }
+    ensures tells { OnOk result (TellsSome places.now names.entry.now.design.now names.entry.now.shown.now (option_map (λ path. path.now) names.entry.now.prefix) (parting_of original.entry.now race.entry.now ∷ []) text.old.items text.new.items told.old told.new) }
     ensures few { OnOk result (told.new.number ≤ told.old.number + 1) }
 {
     if is_line_order(race.site) {
         keep_order(told, names.shown, race)
     } else {
-        push_numbered(text, told, names, processes, original, race)
+        push_numbered(text, told, names, places, original, race)
     }
 }
 
@@ -201,14 +229,22 @@ fn push_numbered<'a>(
     text: &mut Vec<u8>,
     told: &mut ToldSoFar,
     names: &RaceNames<'a>,
-    processes: &[locations::ProcessLocation],
+    places: &SourcePlaces<'_>,
     original: &'a RunRecord,
     race: &'a Race,
 ) -> Result<(), AllocError>
     requires { told.old.number < 18446744073709551615 }
-    ensures { OnOk result (TellsNumbered processes.now names.entry.now.design.now names.entry.now.shown.now (option_map (λ path. path.now) names.entry.now.prefix) original.entry.now race.entry.now text.old.items text.new.items told.old told.new) }
+    ensures { OnOk result (TellsNumbered places.now names.entry.now.design.now names.entry.now.shown.now (option_map (λ path. path.now) names.entry.now.prefix) original.entry.now race.entry.now text.old.items text.new.items told.old told.new) }
 {
-    let description = told_race(names, processes, original, race, told.number);
+    let site = site_of(names.design, race.site);
+    let first = role_words(places, site, race.first)?;
+    let second = role_words(places, site, race.second)?;
+    let words = RaceWords {
+        site,
+        first: first.as_str(),
+        second: second.as_str(),
+    };
+    let description = told_race(names, places, original, race, told.number, words);
     push_race(text, &description)?;
     told.number += 1;
     Ok(())
@@ -272,36 +308,38 @@ fn push_each<'a>(
     text: &mut Vec<u8>,
     told: &mut ToldSoFar,
     names: &RaceNames<'a>,
-    processes: &[locations::ProcessLocation],
+    places: &SourcePlaces<'_>,
     found: &'a Found,
 ) -> Result<(), AllocError>
     requires { told.old.number ≤ 9223372036854775808 }
-    ensures { OnOk result (TellsSome processes.now names.entry.now.design.now names.entry.now.shown.now (option_map (λ path. path.now) names.entry.now.prefix) (map (parting_of found.entry.now.original) found.entry.now.races.items) text.old.items text.new.items told.old told.new) }
+    ensures { OnOk result (TellsSome places.now names.entry.now.design.now names.entry.now.shown.now (option_map (λ path. path.now) names.entry.now.prefix) (map (parting_of found.entry.now.original) found.entry.now.races.items) text.old.items text.new.items told.old told.new) }
 {
     let races = found.races.as_slice();
     for place in 0..races.len() {
-        push_told(text, told, names, processes, &found.original, &races[place])?;
+        push_told(text, told, names, places, &found.original, &races[place])?;
     }
     Ok(())
 }
 
-/// A race, as it is told.
+/// A race, as it is told in these words.
 fn told_race<'a>(
     names: &RaceNames<'a>,
-    processes: &[locations::ProcessLocation],
+    places: &SourcePlaces<'_>,
     original: &'a RunRecord,
     race: &'a Race,
     number: usize,
+    words: RaceWords<'a>,
 ) -> RaceDescription<'a>
-    ensures { IsRaceTold processes.now names.entry.now.design.now names.entry.now.shown.now (option_map (λ path. path.now) names.entry.now.prefix) original.entry.now number race.entry.now result }
+    requires { AreWordsOf places.now names.now.design.now race.now words }
+    ensures { IsRaceTold places.now names.entry.now.design.now names.entry.now.shown.now (option_map (λ path. path.now) names.entry.now.prefix) original.entry.now number race.entry.now result }
 {
     let lines = lines_of(original, &race.exchanged);
     RaceDescription {
         number,
-        site: site_of(names.design, race.site),
+        site: words.site,
         time: race.time,
-        first: role_of(processes, race.first),
-        second: role_of(processes, race.second),
+        first: role_of(places, race.first, words.first),
+        second: role_of(places, race.second, words.second),
         prefix: names.prefix,
         line: lines.number,
         original: RunDescription {
@@ -336,17 +374,20 @@ fn lines_of<'a>(one: &'a RunRecord, other: &'a RunRecord) -> Lines<'a>
     }
 }
 
-/// A role as it is told: of which process, where that begins, if that is known, and what it does.
-fn role_of(
-    processes: &[locations::ProcessLocation],
+/// A role as it is told: of which process, where that begins, if that is known, and what it does, in these words.
+fn role_of<'a>(
+    places: &SourcePlaces<'_>,
     role: accesses::Role,
-) -> RoleDescription<'static>
-    ensures { IsRoleTold processes.now role result }
+    does: &'a str,
+) -> RoleDescription<'a>
+    ensures number { result.number ≡ role.process }
+    ensures begin { result.begins ≡ begin_of places.now.processes.now role.process }
+    ensures does { result.does.now ≡ does.entry.now }
 {
     RoleDescription {
         number: role.process,
-        begins: begin_of(processes, role.process),
-        does: word_of(role.does),
+        begins: begin_of(places.processes, role.process),
+        does,
     }
 }
 

@@ -5,5 +5,5 @@ use Rattle.naming.proofs.naming.push_each.Given as goal
 
 abbrev pub invariant-loop-place : goal.invariant-loop-place
 invariant-loop-place l =
-    TellsSome l.processes l.names.design.now l.names.shown.now (option_map (λ path. path.now) l.names.prefix) (map (parting_of l.found.original) (take l.place l.races)) l.initial.text.items l.text.items l.initial.told l.told
+    TellsSome l.places l.names.design.now l.names.shown.now (option_map (λ path. path.now) l.names.prefix) (map (parting_of l.found.original) (take l.place l.races)) l.initial.text.items l.text.items l.initial.told l.told
     × (l.told.number ≤ l.initial.told.number + l.place)

@@ -1,0 +1,3 @@
+-- Lemmas of tokens that do something in a statement.
+pub mod Behind
+pub mod Found
