@@ -237,7 +237,7 @@ found_behind source code search_options prefix early claim shown endless last ar
 pub search_shown : (holding : Option (List ℕ → List ℕ)) (file : List ℕ) (source : List ℕ) (code : Compiled) (search_options : SearchOptions) (prefix : Option (List ℕ)) (early : ToldRaces) (claim : Claim) (shown : List (Shown Entry End)) (endless : Option (List Entry)) (a b c : Option (List ℕ))
     (files tried files' : Option (List MadeFile)) (last : List ℕ) (found : SearchFinding) → IsHeld holding file source → IsDesignOf source code → ((first : List ℕ) × IsToldFirst source code search_options prefix early first × Appends a b first)
     → AreFound code search_options claim shown endless → Extends early.known.items shown → IsToldBehind source code search_options prefix early.races claim shown last → Appends b c last → KeepsFiles files tried → SavesAllWhereAsked tried files' prefix (journals_of shown endless)
-    → found ≡ finding_of claim (length shown) (have_stops shown) → HasShown holding file search_options prefix a c files files' found
+    → found ≡ finding_of claim (length shown) (have_stops shown) early.refused → HasShown holding file search_options prefix a c files files' found
 unfolding found_behind
 search_shown holding file source code search_options prefix early claim shown endless a b c files tried files' last found held is_design (first, is_first, begins) are_found grown is_last ends kept saved is = record {
   source = source;
@@ -299,22 +299,3 @@ search_left holding file source code search_options prefix early claim shown end
     saved = some_saved_on files tried files' prefix (journals_of shown endless) kept saved;
   });
 })
-
--- what is left where a search ended for want of memory behind its races
-pub texts_left : (holding : Option (List ℕ → List ℕ)) (file : List ℕ) (source : List ℕ) (code : Compiled) (search_options : SearchOptions) (prefix : Option (List ℕ)) (early : ToldRaces) (claim : Claim) (shown : List (Shown Entry End)) (endless : Option (List Entry)) (a b c : Option (List ℕ))
-    (files tried files' : Option (List MadeFile)) (last : List ℕ) (r : Result SearchFinding CommandFault) → IsHeld holding file source → IsDesignOf source code → ((first : List ℕ) × IsToldFirst source code search_options prefix early first × Appends a b first)
-    → AreFound code search_options claim shown endless → Extends early.known.items shown → IsToldBehind source code search_options prefix early.races claim shown last → KeepsFiles files tried
-    → IfErr r (λ f. status_of f ≡ 6 → (Keeps b c × KeepsFiles tried files') ⊎ (Appends b c last × SavesSomeWhereAsked tried files' prefix (journals_of shown endless)))
-    → IfErr r (λ f. status_of f ≡ 6 → HasLeft holding file search_options prefix a c files files')
-texts_left holding file source code search_options prefix early claim shown endless a b c files tried files' last (Ok found) held is_design first are_found grown is_last kept h = tt
-texts_left holding file source code search_options prefix early claim shown endless a b c files tried files' last (Err f) held is_design first are_found grown is_last kept h =
-    λ six. search_left holding file source code search_options prefix early claim shown endless a b c files tried files' last held is_design first are_found grown is_last kept (h six)
-
--- what was told, where that went well
-pub texts_shown : (holding : Option (List ℕ → List ℕ)) (file : List ℕ) (source : List ℕ) (code : Compiled) (search_options : SearchOptions) (prefix : Option (List ℕ)) (early : ToldRaces) (claim : Claim) (shown : List (Shown Entry End)) (endless : Option (List Entry)) (a b c : Option (List ℕ))
-    (files tried files' : Option (List MadeFile)) (last : List ℕ) (r : Result SearchFinding CommandFault) → IsHeld holding file source → IsDesignOf source code → ((first : List ℕ) × IsToldFirst source code search_options prefix early first × Appends a b first)
-    → AreFound code search_options claim shown endless → Extends early.known.items shown → IsToldBehind source code search_options prefix early.races claim shown last → KeepsFiles files tried → OnOk r (Appends b c last)
-    → OnOk r (SavesAllWhereAsked tried files' prefix (journals_of shown endless)) → IfOk r (λ found. found ≡ finding_of claim (length shown) (have_stops shown)) → IfOk r (HasShown holding file search_options prefix a c files files')
-texts_shown holding file source code search_options prefix early claim shown endless a b c files tried files' last (Ok found) held is_design first are_found grown is_last kept ends saved is =
-    search_shown holding file source code search_options prefix early claim shown endless a b c files tried files' last found held is_design first are_found grown is_last ends kept saved is
-texts_shown holding file source code search_options prefix early claim shown endless a b c files tried files' last (Err f) held is_design first are_found grown is_last kept ends saved is = tt

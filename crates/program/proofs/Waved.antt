@@ -163,7 +163,7 @@ said_waves code asked search_options prefix registers claim waves endless said o
 
 pub found_waves : (code : Compiled) (asked : Observed) (search_options : SearchOptions) (prefix : Option (List ℕ)) (registers : List ℕ) (claim : Claim) (waves : List (Shown Entry End)) (endless : Option (List Entry)) (said : List ℕ) (old new : Option (List ℕ)) (a b c : Option (List MadeFile)) (f : SearchFinding)
     → AreRegistersOf code asked registers → AreFoundWaves code search_options registers claim waves endless → AreWavesSaid code registers search_options prefix claim waves said → Appends old new said → KeepsFiles a b → SavesAllWhereAsked b c prefix (journals_of waves endless)
-    → f ≡ finding_of claim (length waves) (have_stops waves) → HasFoundWaves code asked search_options prefix old new a c f
+    → f ≡ finding_of claim (length waves) (have_stops waves) false → HasFoundWaves code asked search_options prefix old new a c f
 unfolding said_waves
 found_waves code asked search_options prefix registers claim waves endless said old new a b c f are found told printed before saved is = record {
   has_said = said_waves code asked search_options prefix registers claim waves endless said old new are found told printed;

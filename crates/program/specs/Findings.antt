@@ -24,6 +24,8 @@ use Rattle.model.specs.Texts as orders
 use Rattle.races.specs.Races as shown_races
 use Rattle.races.specs.Unseen.{IsUnseen}
 use Rattle.races.specs.declared.told.Found.{Found}
+use Rattle.conflicts.specs.declared.bounds.Bound.{Bound}
+use Rattle.conflicts.specs.declared.bounds.Bound.TheVariants as cut
 use Rattle.conflicts.specs.declared.bounds.RaceBounds.{RaceBounds}
 use Rattle.verdict.specs.declared.stops.StopCause.{StopCause}
 use Rattle.verdict.specs.declared.stops.StopCause.TheVariants.{LongTurn, LastTime}
@@ -61,15 +63,33 @@ abbrev pub sampled_of : Option SearchStop → SearchFinding
 sampled_of None = finding.Unfinished
 sampled_of (Some search_stop) = finding_of_stop search_stop
 
--- what no or one text is, of which this is claimed, by whether its run stops short
-abbrev pub few_of : Claim → ℕ → Bool → SearchFinding
-few_of (Every states endless) count stops = if count == 1 then only_of endless stops else finding.Unfinished
-few_of (SoFar search_stop) count stops = finding_of_stop search_stop
-few_of (Sampled orders) count stops = sampled_of orders.stop
+-- what texts are that may not be all: this, unless memory was refused to those who might have found others
+abbrev pub unless_refused : Bool → SearchFinding → SearchFinding
+unless_refused false found = found
+unless_refused true found = finding.Memory
 
--- what so many texts are, of which this is claimed, by whether the run of one of them stops short
-abbrev pub finding_of : Claim → ℕ → Bool → SearchFinding
-finding_of claim count stops = if nat_lt 1 count then finding.Several else few_of claim count stops
+-- what no or one text is, of which this is claimed, by whether its run stops short and whether memory was refused where texts were looked for before the search
+abbrev pub few_of : Claim → ℕ → Bool → Bool → SearchFinding
+few_of (Every states endless) count stops refused = if count == 1 then only_of endless stops else finding.Unfinished
+few_of (SoFar search_stop) count stops refused = unless_refused refused (finding_of_stop search_stop)
+few_of (Sampled orders) count stops refused = unless_refused refused (sampled_of orders.stop)
+
+-- what so many texts are, of which this is claimed, by whether the run of one of them stops short and whether memory was refused where texts were looked for before the search
+abbrev pub finding_of : Claim → ℕ → Bool → Bool → SearchFinding
+finding_of claim count stops refused = if nat_lt 1 count then finding.Several else few_of claim count stops refused
+
+-- memory was refused where races were looked for, by what their list was cut
+abbrev pub is_memory : Bound → Bool
+is_memory cut.Memory = true
+is_memory cut.Races = false
+is_memory cut.Pairs = false
+is_memory cut.Entries = false
+is_memory cut.Steps = false
+
+-- so it is where the list was cut
+abbrev pub lacks_memory : Option Bound → Bool
+lacks_memory None = false
+lacks_memory (Some bound) = is_memory bound
 
 -- why a run stops short that was stopped for this: by a turn that is too long, or where the time would pass the last one
 abbrev pub cause_of_stop : Why → Option StopCause

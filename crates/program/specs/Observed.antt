@@ -1,5 +1,5 @@
 -- What a search finds of runs, where something else is compared of them than their lines, in order, and what it leaves.
-use Rattle.std.specs.Prelude.{◌≡◌, ◌⊎◌, ℕ, ◌+◌, ◌*◌, ◌≤◌, min, nat_lt, if◌then◌else◌, List, [], ◌++◌, length, Option, Some, IfSome, option_map, string_bytes}
+use Rattle.std.specs.Prelude.{◌≡◌, ◌⊎◌, ℕ, ◌+◌, ◌*◌, ◌≤◌, min, nat_lt, if◌then◌else◌, false, List, [], ◌++◌, length, Option, Some, IfSome, option_map, string_bytes}
 use Rattle.std.specs.Io.KnownBytes.{Appends, Keeps}
 use Rattle.std.specs.List.{All, AllPairs}
 use Rattle.model.specs.declared.entry.Entry.{Entry}
@@ -138,7 +138,7 @@ pub record HasSaidWaves (design : Compiled) (asked : Observed) (search_options :
 pub record HasFoundWaves (design : Compiled) (asked : Observed) (search_options : SearchOptions) (prefix : Option (List ℕ)) (old new : Option (List ℕ)) (files files' : Option (List MadeFile)) (found : SearchFinding) : Type 0 where
   pub has_said : HasSaidWaves design asked search_options prefix old new
   pub saved : SavesAllWhereAsked files files' prefix (journals_of has_said.waves has_said.endless)
-  pub finding : found ≡ finding_of has_said.claim (length has_said.waves) (have_stops has_said.waves)
+  pub finding : found ≡ finding_of has_said.claim (length has_said.waves) (have_stops has_said.waves) false
 
 -- So it is, and of the journals a beginning was saved where a prefix is given, and else none.
 pub record HasSavedWaves (design : Compiled) (asked : Observed) (search_options : SearchOptions) (prefix : Option (List ℕ)) (old new : Option (List ℕ)) (files files' : Option (List MadeFile)) : Type 0 where

@@ -1,5 +1,5 @@
 -- What a command leaves on standard output and in files.
-use Rattle.std.specs.Prelude.{◌≡◌, ◌⊎◌, ◌<◌, ◌++◌, ℕ, Bool, true, false, List, Option, Some, None, codes, drop, length, string_bytes}
+use Rattle.std.specs.Prelude.{◌≡◌, ◌⊎◌, ◌<◌, ◌++◌, ℕ, Bool, IsTrue, true, false, List, Option, Some, None, codes, drop, length, string_bytes}
 use Rattle.std.specs.Io.KnownBytes.{Appends, Keeps}
 use Rattle.design.specs.Compiled.{Compiled, design_of}
 use Rattle.model.specs.Syntax.{Module}
@@ -41,7 +41,7 @@ use Rattle.program.specs.declared.racing.NamedRaces.{NamedRaces}
 use Rattle.program.specs.declared.racing.ToldRaces.{ToldRaces}
 use Rattle.program.specs.declared.finding.SearchFinding.{SearchFinding}
 use Rattle.program.specs.declared.finding.SearchFinding.TheVariants as finding
-use Rattle.program.specs.Findings.{AreFound, AreKnown, AreRaces, AreRacesKnown, HaveSomeEnds, finding_of, first_text, have_stops, journals_of, limits_in, stops_from, until_line}
+use Rattle.program.specs.Findings.{AreFound, AreKnown, AreRaces, AreRacesKnown, HaveSomeEnds, finding_of, first_text, have_stops, journals_of, lacks_memory, limits_in, stops_from, until_line}
 use Rattle.program.specs.declared.fault.CommandFault.{CommandFault}
 use Rattle.program.specs.declared.fault.Stop.{Stop}
 use Rattle.program.specs.declared.running.LeftByRun.{LeftByRun}
@@ -142,13 +142,15 @@ pub record HasRun (holding : Option (List ℕ → List ℕ)) (words : List Text)
   pub printed : HasPrintedBy holding file (number_given (codes "seed") (run_rows (drop 1 words))) (options_of (run_rows (drop 1 words))) (first_of (codes "journal") (run_rows (drop 1 words))) old new files files' told
 
 -- What is told before a search: the races that were found in the design of a source, those that part texts which are known before the others, with the numbers of
--- journals of texts that are known from then on. Where there are several, a race is named, or a text is left for which none is, or a bound was met.
+-- journals of texts that are known from then on. Where there are several, a race is named, or a text is left for which none is, or a bound was met. Where memory was refused
+-- to the search for races, it was refused before the search of orders.
 pub record IsToldFirst (source : List ℕ) (design : Compiled) (search_options : SearchOptions) (prefix : Option (List ℕ)) (early : ToldRaces) (first : List ℕ) : Type 0 where
   pub are_races : AreRaces design (limits_in search_options) early.races.bounds early.races.found
   pub are_known : AreKnown design search_options early.races.found early.known.items
   pub are_causes : AreCauses design (limits_in search_options) early.races.bounds early.races.found early.races.causes
   pub answered : 1 < length early.known.items → HasAnswer early.races.found early.races.causes
   pub texts : early.races.texts ≡ length early.known.items
+  pub refused : IsTrue (lacks_memory early.races.found.cut) → IsTrue early.refused
   pub tells : TellsRaces source design early.known.items prefix early.races.bounds early.races.found early.races.causes.causes.items first
 
 -- What is told behind a search, after these races: races that part texts, behind those that were told before, and the texts for which none was found. Where there are several
@@ -196,7 +198,7 @@ pub record HasShown (holding : Option (List ℕ → List ℕ)) (file : List ℕ)
   pub has_found : HasFound source design search_options prefix early last
   pub printed : Appends old new (first ++ last)
   pub saved : SavesAllWhereAsked files files' prefix (journals_of has_found.shown has_found.endless)
-  pub finding : found ≡ finding_of has_found.claim (length has_found.shown) (have_stops has_found.shown)
+  pub finding : found ≡ finding_of has_found.claim (length has_found.shown) (have_stops has_found.shown) early.refused
 
 -- The words ask for a search for races, and to compare runs by their lines, in order. Output and files are as a search of their FILE leaves them that goes as far as these
 -- words say and saves journals at paths that begin with the PREFIX of these words, if they give one, and this was found.

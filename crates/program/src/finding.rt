@@ -1,7 +1,7 @@
 //! What a search of lawful orders has come to, as the exit status tells it.
 
 ghost use Rattle.std.specs.Prelude.{◌≡◌};
-ghost use Rattle.program.specs.Findings.{every_of, few_of, finding_of, only_of, finding_of_stop, sampled_of};
+ghost use Rattle.program.specs.Findings.{every_of, few_of, finding_of, finding_of_stop, only_of, sampled_of, unless_refused};
 ghost use Rattle.program.specs.Program.{finding_status};
 
 use verdict::{Claim, SearchStop};
@@ -17,25 +17,36 @@ pub enum SearchFinding {
 }
 
 impl SearchFinding {
-    /// What so many texts are, of which this is claimed, by whether the run of one of them stops short.
-    pub fn of(claim: Claim, count: usize, stops: bool) -> SearchFinding
-        ensures { result ≡ finding_of claim count stops }
+    /// What so many texts are, of which this is claimed, by whether the run of one of them stops short and whether memory was refused
+    /// where texts were looked for before the search.
+    pub fn of(claim: Claim, count: usize, stops: bool, refused: bool) -> SearchFinding
+        ensures { result ≡ finding_of claim count stops refused }
     {
         if count > 1 {
             return SearchFinding::Several;
         }
-        SearchFinding::of_few(claim, count, stops)
+        SearchFinding::of_few(claim, count, stops, refused)
     }
 
     /// What no or one text is.
-    fn of_few(claim: Claim, count: usize, stops: bool) -> SearchFinding
-        ensures { result ≡ few_of claim count stops }
+    fn of_few(claim: Claim, count: usize, stops: bool, refused: bool) -> SearchFinding
+        ensures { result ≡ few_of claim count stops refused }
     {
         match claim {
             Claim::Every { endless, .. } if count == 1 => SearchFinding::of_only(endless, stops),
             Claim::Every { .. } => SearchFinding::Unfinished,
-            Claim::SoFar(search_stop) => SearchFinding::of_stopped(search_stop),
-            Claim::Sampled(orders) => SearchFinding::of_sampled(orders.stop),
+            Claim::SoFar(search_stop) => SearchFinding::of_stopped(search_stop).unless(refused),
+            Claim::Sampled(orders) => SearchFinding::of_sampled(orders.stop).unless(refused),
+        }
+    }
+
+    /// What texts are that may not be all: this, unless memory was refused to those who might have found others.
+    fn unless(self, refused: bool) -> SearchFinding
+        ensures { result ≡ unless_refused refused self }
+    {
+        match refused {
+            true => SearchFinding::Memory,
+            false => self,
         }
     }
 

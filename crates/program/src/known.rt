@@ -8,9 +8,10 @@ ghost use Rattle.explore.specs.Search.{Differs, IsShown};
 ghost use Rattle.runs.specs.RunRecords.{IsRun};
 ghost use Rattle.arguments.specs.Options.{CanSearch};
 ghost use Rattle.conflicts.specs.declared.bounds.RaceBounds.{RaceBounds};
-ghost use Rattle.program.specs.Findings.{AreFew, AreKnown, AreRaces, HasGrown, IsKnown, IsLawfulShown, IsShownRun, limits_in};
+ghost use Rattle.program.specs.Findings.{AreFew, AreKnown, AreRaces, HasGrown, IsKnown, IsLawfulShown, IsShownRun, is_memory, lacks_memory, limits_in};
 
 use arguments::SearchOptions;
+use conflicts::Bound;
 use design::Design;
 use explore::Shown;
 use model::end::{End, Limits};
@@ -19,7 +20,7 @@ use progress::Progress;
 use races::{Found, Race};
 use runs::compared::is_whole;
 use runs::run::RunRecord;
-use seeded::samples::{SampleBounds, Seeds, sample};
+use seeded::samples::{SampleBounds, SampleStop, Samples, Seeds, sample};
 use std::alloc::{AllocError, Global};
 
 /// How many random orders are tried before a search.
@@ -27,6 +28,14 @@ const FEW_ORDERS: u32 = 8;
 
 /// The most entries of these together, where each takes as many as the first run; no further one is tried once they have as many.
 const FEW_ENTRIES: u64 = 50_000;
+
+/// The texts that are known before a search, each with its end and its journal, and whether memory was refused to runs that might have
+/// shown others.
+#[derive(Drop)]
+pub struct KnownOrders {
+    pub shown: Vec<Shown<Entry, End>>,
+    pub refused: bool,
+}
 
 /// Texts that are known, each with its end and its journal, and how many they may be.
 #[derive(Drop)]
@@ -170,25 +179,58 @@ impl KnownTexts {
 }
 
 /// The texts that are known of a design before its orders are searched: those of the first run, of the second runs of its races, and
-/// of a few random orders, unless such are tried in place of the search; up to as many as may be shown.
+/// of a few random orders, unless such are tried in place of the search; up to as many as may be shown. And whether memory was refused
+/// to the search for races or to the random orders.
 pub fn known_texts<P: Progress>(
     alloc: Global,
     design: &Design,
     search_options: SearchOptions,
     found: &Found,
     progress: &P,
-) -> Result<Vec<Shown<Entry, End>>, AllocError>
+) -> Result<KnownOrders, AllocError>
     requires can { CanSearch search_options }
     requires races { (race_bounds : RaceBounds) × AreRaces design.now (limits_in search_options) race_bounds found.now }
-    ensures { IfOk result (λ known. AreKnown design.now search_options found.now known.items) }
+    ensures known { IfOk result (λ known. AreKnown design.now search_options found.now known.shown.items) }
+    ensures refused { IfOk result (λ known. IsTrue (lacks_memory found.now.cut) → IsTrue known.refused) }
 {
     let mut known = KnownTexts::new(alloc, search_options.max_texts as usize);
     known.add_run(alloc, &found.original)?;
     known.add_races(alloc, found.races.as_slice())?;
     let others = random_orders(alloc, design, search_options, found, progress);
-    known.add_runs(alloc, others.as_slice())?;
+    known.add_runs(alloc, others.kept.as_slice())?;
+    let refused = is_refused(found.cut, others.stop);
     let KnownTexts { shown, most: _ } = known;
-    Ok(shown)
+    Ok(KnownOrders { shown, refused })
+}
+
+/// Whether memory was refused to the search for races or to random orders.
+fn is_refused(cut: Option<Bound>, stop: Option<SampleStop>) -> bool
+    ensures { IsTrue (lacks_memory cut) → IsTrue result }
+{
+    if lacks_memory(cut) {
+        return true;
+    }
+    matches!(stop, Some(SampleStop::Memory))
+}
+
+/// Whether memory was refused to a search for races, by what its list was cut.
+fn lacks_memory(cut: Option<Bound>) -> bool
+    ensures { result ≡ lacks_memory cut }
+{
+    match cut {
+        Some(bound) => is_memory(bound),
+        None => false,
+    }
+}
+
+/// Whether a list of races was cut since memory was refused.
+fn is_memory(bound: Bound) -> bool
+    ensures { result ≡ is_memory bound }
+{
+    match bound {
+        Bound::Memory => true,
+        Bound::Races | Bound::Pairs | Bound::Entries | Bound::Steps => false,
+    }
 }
 
 /// How many random orders are tried: none where such are tried in place of the search or the first run has no two entries whose order may
@@ -201,16 +243,16 @@ fn few_orders(search_options: SearchOptions, found: &Found) -> u32 {
     (FEW_ENTRIES / entries).min(u64::from(FEW_ORDERS)) as u32
 }
 
-/// A few random orders.
+/// A few random orders, and why no more of them were tried.
 fn random_orders<P: Progress>(
     alloc: Global,
     design: &Design,
     search_options: SearchOptions,
     found: &Found,
     progress: &P,
-) -> Vec<RunRecord>
+) -> Samples
     requires { CanSearch search_options }
-    ensures { All (IsRun design.now (limits_in search_options)) result.items }
+    ensures { All (IsRun design.now (limits_in search_options)) result.kept.items }
 {
     let limits = Limits {
         until: search_options.until,
@@ -226,5 +268,5 @@ fn random_orders<P: Progress>(
     };
     let samples = sample(alloc, design, limits, seeds, bounds, progress);
     progress.end();
-    samples.kept
+    samples
 }

@@ -18,9 +18,10 @@ ghost use Rattle.program.specs.Program.{status_of};
 
 use crate::ending::Ending;
 use crate::fault::CommandFault;
-use crate::finding::SearchFinding;
 use crate::known::KnownTexts;
-use crate::searching::{bounds_of, claim_of, endless_of, first_of, number_of, stop_of, tell_texts};
+use crate::searching::{
+    bounds_of, claim_of, endless_of, finding_of, first_of, number_of, stop_of, tell_texts,
+};
 use crate::stops::stops_of;
 use crate::texts::FoundTexts;
 use arguments::{Observed, RacesRequest, SearchOptions};
@@ -146,8 +147,9 @@ fn tell_waves<F: Files, O: Write>(
         search_options,
         request.journals,
     )?;
+    let found = finding_of(&waves, false);
     match tell_texts(alloc, waves, said.as_slice(), request, files, out) {
-        Ok(found) => Ok(Ending::Found(found)),
+        Ok(()) => Ok(Ending::Found(found)),
         Err(fault) => Err(fault),
     }
 }

@@ -12,7 +12,7 @@ ghost use Rattle.program.specs.Printed.{IsToldFirst, IsToldMore};
 ghost use Rattle.program.specs.Program.{status_of};
 
 use crate::fault::CommandFault;
-use crate::known::known_texts;
+use crate::known::{KnownOrders, known_texts};
 use arguments::{RacesRequest, SearchOptions};
 use causes::{CauseSearch, Causes, PartingRace};
 use conflicts::RaceBounds;
@@ -44,11 +44,13 @@ pub struct NamedRaces {
     pub texts: usize,
 }
 
-/// What was told before a search: the texts that are known from then on, whose journals are named beside the runs that have them, and the races.
+/// What was told before a search: the texts that are known from then on, whose journals are named beside the runs that have them, and the races;
+/// and whether memory was refused to runs that might have shown other texts.
 #[derive(Drop)]
 pub struct ToldRaces {
     pub known: Vec<Shown<Entry, End>>,
     pub races: NamedRaces,
+    pub refused: bool,
 }
 
 /// Looks for races and tells them: first those that part texts which are known.
@@ -70,7 +72,11 @@ pub fn tell_races<O: Write, P: Progress>(
     };
     let race_bounds = RACE_BOUNDS;
     let found = races_of(alloc, design, limits, race_bounds, progress);
-    let known = known_texts(alloc, design, request.search_options, &found, progress)?;
+    let orders = known_texts(alloc, design, request.search_options, &found, progress)?;
+    let KnownOrders {
+        shown: known,
+        refused,
+    } = orders;
     let search = CauseSearch {
         alloc,
         design,
@@ -95,7 +101,11 @@ pub fn tell_races<O: Write, P: Progress>(
         causes,
         texts,
     };
-    Ok(ToldRaces { known, races })
+    Ok(ToldRaces {
+        known,
+        races,
+        refused,
+    })
 }
 
 /// The races that part texts which are known before a search.

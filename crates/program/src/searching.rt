@@ -77,7 +77,11 @@ fn search_design<F: Files, O: Write>(
 {
     try_first(alloc, request.journals, files)?;
     let early = tell_races(alloc, source, design, request, out, &files.progress())?;
-    let ToldRaces { known, races } = early;
+    let ToldRaces {
+        known,
+        races,
+        refused,
+    } = early;
     let end = races.found.original.end;
     let texts = find_texts(
         alloc,
@@ -97,7 +101,19 @@ fn search_design<F: Files, O: Write>(
     let more = more_lines(alloc, &names, search_options, races, &files.progress())?;
     let said = last_lines(alloc, &texts, search_options, request.journals, end)?;
     let last = joined(more, said.as_slice())?;
-    tell_texts(alloc, texts, last.as_slice(), request, files, out)
+    let found = finding_of(&texts, refused);
+    match tell_texts(alloc, texts, last.as_slice(), request, files, out) {
+        Ok(()) => Ok(found),
+        Err(fault) => Err(fault),
+    }
+}
+
+/// What texts are that were found, by whether memory was refused where texts were looked for before the search.
+pub(crate) fn finding_of(texts: &FoundTexts, refused: bool) -> SearchFinding
+    ensures { result ≡ finding_of texts.now.claim (length texts.now.shown.items) (have_stops texts.now.shown.items) refused }
+{
+    let stops = have_stops(texts.shown.as_slice());
+    SearchFinding::of(texts.claim, texts.shown.len(), stops, refused)
 }
 
 /// Tells what is said of texts, and then saves their journals where they are wanted.
@@ -108,28 +124,25 @@ pub(crate) fn tell_texts<F: Files, O: Write>(
     request: &RacesRequest<'_>,
     files: &mut F,
     out: &mut O,
-) -> Result<SearchFinding, CommandFault<'static>>
+) -> Result<(), CommandFault<'static>>
     ensures told { OnOk result (Appends (O.contents out.old) (O.contents out.new) last.now) }
     ensures saved { OnOk result (SavesAllWhereAsked (F.made files.old) (F.made files.new) (option_map (λ path. path.now) request.now.journals) (journals_of texts.shown.items (option_map (λ journal. journal.items) texts.endless))) }
-    ensures finding { IfOk result (λ found. found ≡ finding_of texts.claim (length texts.shown.items) (have_stops texts.shown.items)) }
     ensures fault { IfErr result (λ fault. (status_of fault ≡ 1) ⊎ (status_of fault ≡ 6)) }
     ensures wanting { IfErr result (λ fault. status_of fault ≡ 6 → (Keeps (O.contents out.old) (O.contents out.new) × KeepsFiles (F.made files.old) (F.made files.new))
         ⊎ (Appends (O.contents out.old) (O.contents out.new) last.now
         × SavesSomeWhereAsked (F.made files.old) (F.made files.new) (option_map (λ path. path.now) request.now.journals) (journals_of texts.shown.items (option_map (λ journal. journal.items) texts.endless)))) }
 {
     let FoundTexts {
-        claim,
+        claim: _,
         shown,
         endless,
     } = texts;
-    let stops = have_stops(shown.as_slice());
-    let found = SearchFinding::of(claim, shown.len(), stops);
     let journals = with_endless(alloc, shown, endless)?;
     let all = journals.as_slice();
     let (file, prefix) = (request.file, request.journals);
     show_bytes(out, last)?;
     save_all(alloc, all, file, prefix, files)?;
-    Ok(found)
+    Ok(())
 }
 
 /// The texts with their journals, and behind them the journal of a run that comes to no end, if there is one.

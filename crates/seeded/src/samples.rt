@@ -73,8 +73,8 @@ fn stands_for(one: &RunRecord, run: &RunRecord) -> bool
     !are_apart(one, run)
 }
 
-/// Whether a kept run stands for this one.
-pub fn is_told(kept: &[RunRecord], run: &RunRecord) -> bool
+// Whether a kept run stands for this one.
+fn is_told(kept: &[RunRecord], run: &RunRecord) -> bool
     ensures like { IsTrue result → IsRepresented kept.now run.now }
     ensures other { result ≡ false → All (λ one. AreDifferentRuns one run.now ⊎ GivesWay one run.now) kept.now }
 {
@@ -117,9 +117,9 @@ fn give_way(kept: &mut Vec<RunRecord>, run: &RunRecord)
     }
 }
 
-/// Keeps a run unless a kept one stands for it. Those that were cut off give way to it where they aren't apart from it. Fails
-/// where memory is refused, and then those that were kept stay.
-pub fn keep(kept: &mut Vec<RunRecord>, run: RunRecord) -> Result<(), AllocError>
+// Keeps a run unless a kept one stands for it. Those that were cut off give way to it where they aren't apart from it. Fails
+// where memory is refused, and then those that were kept stay.
+fn keep(kept: &mut Vec<RunRecord>, run: RunRecord) -> Result<(), AllocError>
     requires apart { AllPairs AreDifferentRuns kept.old.items }
     ensures apart { AllPairs AreDifferentRuns kept.new.items }
     ensures from { All (λ one. Contains kept.old.items one ⊎ (one ≡ run)) kept.new.items }

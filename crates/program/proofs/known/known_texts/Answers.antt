@@ -12,8 +12,8 @@ use Rattle.program.specs.Findings.{IsKnown, IsLawfulShown, limits_in}
 use Rattle.program.proofs.Knowing.{all_known, races_run}
 use Rattle.program.proofs.known.known_texts.Goals as goal
 
-pub returns : goal.returns
-returns g c =
+pub returns-clause-known : goal.returns-clause-known
+returns-clause-known g c =
     let code = c.args.design.now in
     let search_options = c.args.search_options in
     let limits = limits_in search_options in

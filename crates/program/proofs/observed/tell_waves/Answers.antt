@@ -15,8 +15,8 @@ returns-in-Ok-clause-ended g c =
     let begun = g.O.Write.contents c.args.out.now in
     let end = g.O.Write.contents c.tell_texts.new.out in
     found_waves c.args.design.now request.observed request.search_options prefix c.args.registers.now waves.claim waves.shown.items (option_map (λ journal. journal.items) waves.endless) c.in_ok-said.said.items begun end
-    (g.F.Files.made c.args.files.now) (g.F.Files.made c.try_first.new.files) (g.F.Files.made c.tell_texts.new.files) c.in-Ok.found c.requires c.in_ok-waves.ensures c.in_ok-said.ensures
-    (subst (λ (l : List ℕ). Appends begun end l) c.as_slice.ensures.value c.in-Ok.ensures.told) c.in_ok-try_first.ensures.kept c.in-Ok.ensures.saved c.in-Ok.ensures.finding
+    (g.F.Files.made c.args.files.now) (g.F.Files.made c.try_first.new.files) (g.F.Files.made c.tell_texts.new.files) c.finding_of-found.result c.requires c.in_ok-waves.ensures c.in_ok-said.ensures
+    (subst (λ (l : List ℕ). Appends begun end l) c.as_slice.ensures.value c.in-Ok.ensures.told) c.in_ok-try_first.ensures.kept c.in-Ok.ensures.saved c.finding_of-found.ensures
 
 pub returns-clause-wanting : goal.returns-clause-wanting
 returns-clause-wanting g c = λ six.
