@@ -265,8 +265,8 @@ impl Write for MarkedTarget<'_> {
     }
 }
 
-/// A command line with its source, the mark of its first byte on output, and its memory: so many pieces up to a mark, and a rest
-/// from there on.
+/// A command line with its source, the mark of its first byte on output, its memory: so many pieces up to a mark, and a rest
+/// from there on, and its status where it has enough.
 #[derive(Clone, Copy)]
 struct AskedCommand<'a> {
     line: &'a str,
@@ -275,6 +275,7 @@ struct AskedCommand<'a> {
     pieces: usize,
     loss: u8,
     rest: usize,
+    done: u8,
 }
 
 /// A command that reads FILE, and then has no memory.
@@ -286,6 +287,7 @@ fn asking<'a>(line: &'a str, source: &'a str) -> AskedCommand<'a> {
         pieces: ENOUGH,
         loss: b'F',
         rest: 0,
+        done: 0,
     }
 }
 
@@ -497,7 +499,7 @@ fn told_in_all<R: Abort + Threads + Wait + Sync>(
     for count in 0..RESTS {
         let rest = count.saturating_mul(STEP);
         let status = status_with(rt, alloc, AskedCommand { rest, ..asked }, places);
-        if status == 0 {
+        if status == asked.done {
             return told;
         }
         assert_refused(rt, places, status, shown);
@@ -519,6 +521,16 @@ fn assert_all_told<R: Abort + Threads + Wait + Sync>(
     let told = told_in_all(rt, alloc, asked, &places, shown.as_bytes(), wanted);
     let told = told as u64;
     holds_as(rt, "lines of memory", told, wanted.len() as u64);
+}
+
+/// One random order prints one text, and the races two. Where memory is refused to the races alone, the one text isn't told as if a limit had been met.
+#[test]
+fn a_search_tells_that_memory_was_refused(rt: HostRuntime) {
+    let asked = AskedCommand {
+        done: 7,
+        ..asking("vsimtx races t.v --samples 1", RACE)
+    };
+    assert_all_told(&rt, rt.alloc(), asked, "", &[]);
 }
 
 /// There is no memory for the tree of a source, then for a run before its first worker, and then for its entries.
