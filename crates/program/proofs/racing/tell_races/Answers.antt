@@ -27,7 +27,7 @@ returns-clause-told g c =
         are_known = c.in_ok-orders.ensures.known;
         are_causes = c.first_causes-causes.ensures.are;
         answered = subst (λ (ss : List (Shown Entry End)). 1 < length ss → HasAnswer found causes) c.as_slice.ensures.value c.first_causes-causes.ensures.answered;
-        texts = c.len-texts.ensures ∙ c.in_ok-orders.orders.ok.0.0;
+        texts = c.len-texts.ensures ∙ c.in_ok-orders.orders.shown.ok.0;
         refused = c.in_ok-orders.ensures.refused;
         tells = subst (λ (cs : List PartingRace). TellsRaces source design known prefix race_bounds found cs first) c.as_slice-3.ensures.value
             (subst (λ (ss : List (Shown Entry End)). TellsRaces source design ss prefix race_bounds found c.as_slice-3.result.now first) c.as_slice-2.ensures.value c.in_ok-lines.ensures);
