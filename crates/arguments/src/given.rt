@@ -18,17 +18,23 @@ use crate::search_options::SearchOptions;
 use clap::ArgMatches;
 use literals::Radix;
 
-const DEFAULT_WORKERS: u32 = 2;
+/// The options of a run of which the words say nothing.
+const DEFAULT_RUN: RunOptions = RunOptions {
+    workers: 2,
+    until: None,
+    max_entries: 1_000_000,
+};
 
-const DEFAULT_MAX_ENTRIES: u32 = 1_000_000;
-
-const DEFAULT_MAX_STATES: u32 = 1_000_000;
-
-const DEFAULT_MAX_TEXTS: u32 = 8;
-
-const DEFAULT_MAX_MEMORY: u32 = 4096;
-
-const DEFAULT_SEED: u64 = 0;
+/// The options of a search of which the words say nothing.
+const DEFAULT_SEARCH: SearchOptions = SearchOptions {
+    until: None,
+    max_entries: 1_000_000,
+    max_states: 1_000_000,
+    max_texts: 8,
+    max_memory: 4096,
+    samples: None,
+    seed: 0,
+};
 
 /// The run that the words of `run` ask for, with the defaults of what they leave out.
 pub fn run_request<'a>(matches: &ArgMatches<'a>) -> RunRequest<'a>
@@ -212,7 +218,7 @@ fn options(matches: &ArgMatches<'_>) -> RunOptions
     RunOptions {
         workers: given_workers(matches),
         until: given_until(matches),
-        max_entries: given_count(matches, "max-entries", DEFAULT_MAX_ENTRIES),
+        max_entries: given_count(matches, "max-entries", DEFAULT_RUN.max_entries),
     }
 }
 
@@ -225,12 +231,12 @@ fn search_options(matches: &ArgMatches<'_>) -> SearchOptions
 {
     SearchOptions {
         until: given_until(matches),
-        max_entries: given_count(matches, "max-entries", DEFAULT_MAX_ENTRIES),
-        max_states: given_count(matches, "max-states", DEFAULT_MAX_STATES),
-        max_texts: at_least_two(given_count(matches, "max-texts", DEFAULT_MAX_TEXTS)),
-        max_memory: given_count(matches, "max-memory", DEFAULT_MAX_MEMORY),
+        max_entries: given_count(matches, "max-entries", DEFAULT_SEARCH.max_entries),
+        max_states: given_count(matches, "max-states", DEFAULT_SEARCH.max_states),
+        max_texts: at_least_two(given_count(matches, "max-texts", DEFAULT_SEARCH.max_texts)),
+        max_memory: given_count(matches, "max-memory", DEFAULT_SEARCH.max_memory),
         samples: given_number(matches, "samples"),
-        seed: given_seed(matches).unwrap_or(DEFAULT_SEED),
+        seed: given_seed(matches).unwrap_or(DEFAULT_SEARCH.seed),
     }
 }
 
@@ -248,7 +254,9 @@ fn given_workers(matches: &ArgMatches<'_>) -> u32
     ensures most { result ≤ 16 }
     ensures given { result ≡ unwrap_or (number_given (codes "workers") (rows_of (found_of matches.now))) 2 }
 {
-    matches.get_one::<u32>("workers").unwrap_or(DEFAULT_WORKERS)
+    matches
+        .get_one::<u32>("workers")
+        .unwrap_or(DEFAULT_RUN.workers)
 }
 
 fn given_until(matches: &ArgMatches<'_>) -> Option<u64>

@@ -4,7 +4,7 @@
 //! arguments `clap` promises that a required one has a value, and that each value passed its
 //! parser. So reading a path can't fail, and the options of a request are those of a run.
 
-ghost use Rattle.std.specs.Prelude.{◌≡◌, ◌⊎◌, IfErr, IfOk, IfSome, None, true, false, codes, drop, is_some, ◌≢◌};
+ghost use Rattle.std.specs.Prelude.{◌≡◌, ◌⊎◌, IfErr, IfOk, IfSome, OnOk, None, true, false, codes, drop, is_some, ◌≢◌};
 ghost use Rattle.clap.specs.Words.{first_of, found_of, kind_of, rows_of};
 ghost use Rattle.clap.specs.declared.error.kind.ErrorKind.TheVariants.{MissingSubcommand, OutOfMemory};
 ghost use Rattle.clap.specs.declared.error.kind.ErrorKind.{ErrorKind};
@@ -125,9 +125,7 @@ fn asked_run<'a>(alloc: Global, matches: &ArgMatches<'a>) -> Result<Request<'a>,
     ensures asked { IfOk result (IsAskedBy Run (rows_of (found_of matches.now))) }
     ensures failed { IfErr result (λ e. AsksInVain Run (rows_of (found_of matches.now)) (kind_of e)) }
 {
-    if gives_two_orders(matches) {
-        return Err(in_vain(alloc, VainWords::TwoOrders));
-    }
+    unless_in_vain(alloc, gives_two_orders(matches), VainWords::TwoOrders)?;
     Ok(Request::Run(run_request(matches)))
 }
 
@@ -154,9 +152,11 @@ fn races_by<'a>(
     ensures asked { IfOk result (IsAskedBy Races (rows_of (found_of matches.now))) }
     ensures failed { IfErr result (λ e. AsksInVain Races (rows_of (found_of matches.now)) (kind_of e)) }
 {
-    if samples_other(matches, observed) {
-        return Err(in_vain(alloc, VainWords::SamplesObserved));
-    }
+    unless_in_vain(
+        alloc,
+        samples_other(matches, observed),
+        VainWords::SamplesObserved,
+    )?;
     Ok(Request::Races(races_request(matches, observed)))
 }
 
@@ -166,12 +166,8 @@ fn asked_telling<'a>(alloc: Global, matches: &ArgMatches<'a>) -> Result<Request<
     ensures asked { IfOk result (IsAskedBy Explain (rows_of (found_of matches.now))) }
     ensures failed { IfErr result (λ e. AsksInVain Explain (rows_of (found_of matches.now)) (kind_of e)) }
 {
-    if has_no_radix(matches) {
-        return Err(in_vain(alloc, VainWords::NoRadix));
-    }
-    if tells_no_entry(matches) {
-        return Err(in_vain(alloc, VainWords::NoEntries));
-    }
+    unless_in_vain(alloc, has_no_radix(matches), VainWords::NoRadix)?;
+    unless_in_vain(alloc, tells_no_entry(matches), VainWords::NoEntries)?;
     Ok(Request::Explain(explain_request(matches)))
 }
 
@@ -223,6 +219,18 @@ fn in_vain(alloc: Global, vain: VainWords) -> Error
     ensures { (kind_of result ≡ OutOfMemory) ⊎ (kind_of result ≡ kind_in_vain vain) }
 {
     made(said_in_vain(alloc, vain))
+}
+
+/// Fails with what to say of words that ask in vain, where this test says that they do.
+fn unless_in_vain(alloc: Global, asks_in_vain: bool, vain: VainWords) -> Result<(), Error>
+    ensures clear { OnOk result (asks_in_vain ≡ false) }
+    ensures asks { IfErr result (λ e. asks_in_vain ≡ true) }
+    ensures kind { IfErr result (λ e. (kind_of e ≡ OutOfMemory) ⊎ (kind_of e ≡ kind_in_vain vain)) }
+{
+    if asks_in_vain {
+        return Err(in_vain(alloc, vain));
+    }
+    Ok(())
 }
 
 /// What to say of words that ask for no task.

@@ -1,9 +1,14 @@
 -- A letter stands for no digits, or the first entry that is to be told stands behind the last one.
 use Rattle.std.proofs.Common.{◌∙◌, inl, inr, refl, sym}
+use Rattle.std.proofs.lemmas.Result.{err_from_is_err_and}
 use Rattle.arguments.proofs.parsing.asked_telling.Goals as goal
 
-pub returns-then-has_no_radix-clause-failed : goal.returns-then-has_no_radix-clause-failed
-returns-then-has_no_radix-clause-failed c = inr (inr (inr (refl, inl (c.has_no_radix.ensures c.if-has_no_radix.true), c.in_vain.ensures)))
+pub returns-in_err-unless_in_vain-clause-failed : goal.returns-in_err-unless_in_vain-clause-failed
+returns-in_err-unless_in_vain-clause-failed c =
+    let p = err_from_is_err_and c.from_residual.result c.from_residual.ensures.1 in
+    rw (p.1, p.2) (inr (inr (inr (refl, inl (c.has_no_radix.ensures c.in_err-unless_in_vain.ensures.asks), c.in_err-unless_in_vain.ensures.kind))))
 
-pub returns-then-tells_no_entry-clause-failed : goal.returns-then-tells_no_entry-clause-failed
-returns-then-tells_no_entry-clause-failed c = inr (inr (inr (refl, inr (sym c.tells_no_entry.ensures ∙ c.if-tells_no_entry.true), c.in_vain-then-tells_no_entry.ensures)))
+pub returns-in_err-unless_in_vain-2-clause-failed : goal.returns-in_err-unless_in_vain-2-clause-failed
+returns-in_err-unless_in_vain-2-clause-failed c =
+    let p = err_from_is_err_and c.from_residual-in_err-unless_in_vain-2.result c.from_residual-in_err-unless_in_vain-2.ensures.1 in
+    rw (p.1, p.2) (inr (inr (inr (refl, inr (sym c.tells_no_entry.ensures ∙ c.in_err-unless_in_vain-2.ensures.asks), c.in_err-unless_in_vain-2.ensures.kind))))
