@@ -17,11 +17,13 @@ use Rattle.explain.specs.EntryLines.{update_text}
 abbrev pub standing_text : ℕ → ℕ → List ℕ
 standing_text count time = codes " after " ++ decimal count ++ codes " entries at time " ++ decimal time ++ codes "\n"
 
+-- what is said of so many entries that may be next, behind their number
+abbrev pub may_be_next : ℕ → List ℕ
+may_be_next next = if next == 1 then codes " entry may be next\n" else codes " entries may be next\n"
+
 -- how many entries may be next
 abbrev pub next_text : ℕ → List ℕ
-next_text next =
-    if next == 0 then codes "no entry may be next\n"
-    else (if next == 1 then codes "can go on: 1 entry may be next\n" else codes "can go on: " ++ decimal next ++ codes " entries may be next\n")
+next_text next = if next == 0 then codes "no entry may be next\n" else codes "can go on: " ++ decimal next ++ may_be_next next
 
 -- how a run stands that isn't finished
 abbrev pub quiet_text : Bool → ℕ → ℕ → ℕ → List ℕ

@@ -5,7 +5,7 @@ ghost use Rattle.model.specs.Runs.{is_quiet};
 ghost use Rattle.regions.specs.Future.{due_event};
 ghost use Rattle.regions.specs.Queue.{evaluation_event, update_event};
 ghost use Rattle.regions.specs.Machine.{state_at};
-ghost use Rattle.explain.specs.ExplainedEnd.{cause_text, due_text, end_text, event_text, events_text, future_lines, next_text, quiet_text, refusal_text, region_lines, standing_text, strobes_text, title_text};
+ghost use Rattle.explain.specs.ExplainedEnd.{cause_text, due_text, end_text, event_text, events_text, future_lines, may_be_next, next_text, quiet_text, refusal_text, region_lines, standing_text, strobes_text, title_text};
 ghost use Rattle.explain.specs.ExplainedEnd.{PutsEnd};
 
 use crate::cause::{cause_code, cause_rule, said};
@@ -25,23 +25,25 @@ fn push_standing(text: &mut Vec<u8>, count: u64, time: u64) -> Result<(), AllocE
     text.extend_from_slice(b"\n")
 }
 
+// What is said of so many entries that may be next, behind their number.
+fn may_be_next(next: usize) -> &'static str
+    ensures { result.now ≡ may_be_next next }
+{
+    match next {
+        1 => " entry may be next\n",
+        _ => " entries may be next\n",
+    }
+}
+
 // Puts how many entries may be next behind a text.
 fn push_next(text: &mut Vec<u8>, next: usize) -> Result<(), AllocError>
     ensures { OnOk result (text.new.items ≡ text.old.items ++ next_text next) }
 {
-    match next {
-        0 => text.extend_from_slice(b"no entry may be next\n"),
-        1 => text.extend_from_slice(b"can go on: 1 entry may be next\n"),
-        _ => push_several(text, next),
+    if next == 0 {
+        return text.extend_from_slice(b"no entry may be next\n");
     }
-}
-
-// Puts that several entries may be next behind a text, and how many.
-fn push_several(text: &mut Vec<u8>, next: usize) -> Result<(), AllocError>
-    ensures { OnOk result (text.new.items ≡ text.old.items ++ (codes "can go on: " ++ decimal next ++ codes " entries may be next\n")) }
-{
     push_labelled(text, b"can go on: ", next as u64)?;
-    text.extend_from_slice(b" entries may be next\n")
+    text.extend_from_slice(may_be_next(next).as_bytes())
 }
 
 // Puts how a run stands behind a text, where so many entries may be next.

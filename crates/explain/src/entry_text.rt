@@ -6,7 +6,7 @@ ghost use Rattle.explain.specs.EntryText.{IsBefore, PutsEntryLine};
 ghost use Rattle.explain.specs.Explained.{IsFaultOfEntries};
 
 use crate::failure::ExplainFault;
-use crate::lines::push_entry;
+use crate::lines::{ToldEntry, push_entry};
 use crate::phrases::SourceNames;
 use crate::telling::explain_next;
 use model::entry::Entry;
@@ -52,7 +52,7 @@ fn push_next(
         Ok(()) => {}
         Err(fault) => return Err(fault),
     }
-    match push_entry(text, names, explainer, entries[place]) {
+    match push_entry(text, names, &ToldEntry::last(explainer, entries[place])) {
         Ok(()) => Ok(()),
         Err(_) => Err(ExplainFault::Memory),
     }

@@ -65,12 +65,19 @@ fn push_version(text: &mut Vec<u8>, shown: bool, version: u64) -> Result<(), All
 }
 
 /// What a line has a list of.
-trait ListedPart {
+pub(crate) trait ListedPart {
     ghost use Rattle.std.specs.Prelude.{ℕ, List};
     ghost use Rattle.explain.specs.declared.phrases.SourceNames.{SourceNames};
 
     /// Its text.
     ghost part_text: { SourceNames → Self → List ℕ };
+
+    /// The register that it names.
+    ghost part_register: { Self → ℕ };
+
+    /// The register that it names.
+    fn register(&self) -> RegId
+        ensures { result ≡ part_register self.now };
 
     /// Puts it behind a text.
     fn push(&self, text: &mut Vec<u8>, names: &SourceNames<'_>) -> Result<(), AllocError>
@@ -79,6 +86,12 @@ trait ListedPart {
 
 impl ListedPart for Reading {
     ghost part_text = { reading_text };
+
+    ghost part_register = { λ part. part.register };
+
+    fn register(&self) -> RegId {
+        self.register
+    }
 
     // Puts the register with its value behind a text, and its version, where the style has it.
     fn push(&self, text: &mut Vec<u8>, names: &SourceNames<'_>) -> Result<(), AllocError> {
@@ -90,6 +103,12 @@ impl ListedPart for Reading {
 impl ListedPart for Changed {
     ghost part_text = { change_text };
 
+    ghost part_register = { λ part. part.register };
+
+    fn register(&self) -> RegId {
+        self.register
+    }
+
     // Puts the register behind a text, with its values before and after the entry.
     fn push(&self, text: &mut Vec<u8>, names: &SourceNames<'_>) -> Result<(), AllocError> {
         push_valued(text, names, self.register, b" ", self.before)?;
@@ -100,6 +119,12 @@ impl ListedPart for Changed {
 
 impl ListedPart for Nba {
     ghost part_text = { assignment_text };
+
+    ghost part_register = { λ part. part.reg };
+
+    fn register(&self) -> RegId {
+        self.reg
+    }
 
     // Puts the register with its value behind a text, and the time at which it is due.
     fn push(&self, text: &mut Vec<u8>, names: &SourceNames<'_>) -> Result<(), AllocError> {
@@ -233,42 +258,46 @@ fn push_parts(
     push_finish(text, assigned | has_any(account.lines.as_bytes()), finishes)
 }
 
-// Puts the line of an entry behind a text: its number, counted from 1, the time, who does it, what it reads, changes, assigns and
-// prints, and whether it finishes the run.
-fn push_told(
-    text: &mut Vec<u8>,
-    names: &SourceNames<'_>,
-    number: u64,
-    entry: Entry,
-    account: &EntryAccount,
-    finishes: bool,
-) -> Result<(), AllocError>
-    ensures { OnOk result (text.new.items ≡ text.old.items ++ entry_account_text names.entry.now number entry (account_of account.now) finishes) }
-{
-    push_number(text, number)?;
-    push_labelled(text, b"  time ", account.time)?;
-    text.extend_from_slice(b"  ")?;
-    push_actor(text, names, entry, account.actor)?;
-    push_parts(text, names, account, finishes)?;
-    text.extend_from_slice(b"\n")
+/// An entry as its line tells it: its number, counted from 1, what came of its step, and whether it finished the run.
+#[derive(Clone, Copy)]
+pub(crate) struct ToldEntry<'a> {
+    pub(crate) number: u64,
+    pub(crate) entry: Entry,
+    pub(crate) account: &'a EntryAccount,
+    pub(crate) finishes: bool,
 }
 
-/// Puts the line of an explainer's last entry behind a text.
+impl<'a> ToldEntry<'a> {
+    /// The last entry of an explainer.
+    pub(crate) fn last(explainer: &'a Explainer<'_>, entry: Entry) -> ToldEntry<'a>
+        ensures number { result.number ≡ explainer.entry.now.position.core.entries }
+        ensures entry { result.entry ≡ entry }
+        ensures account { account_of result.account.now ≡ explainer.entry.now.account }
+        ensures finishes { result.finishes ≡ explainer.entry.now.position.core.finished }
+    {
+        let state = explainer.machine().state();
+        ToldEntry {
+            number: state.entries(),
+            entry,
+            account: explainer.told(),
+            finishes: state.is_finished(),
+        }
+    }
+}
+
+/// Puts the line of an entry behind a text: its number, the time, who does it, what it reads, changes, assigns and prints, and whether it
+/// finishes the run.
 pub(crate) fn push_entry(
     text: &mut Vec<u8>,
     names: &SourceNames<'_>,
-    explainer: &Explainer<'_>,
-    entry: Entry,
+    told: &ToldEntry<'_>,
 ) -> Result<(), AllocError>
-    ensures { OnOk result (text.new.items ≡ text.old.items ++ entry_account_text names.entry.now explainer.now.position.core.entries entry explainer.now.account explainer.now.position.core.finished) }
+    ensures { OnOk result (text.new.items ≡ text.old.items ++ entry_account_text names.entry.now told.now.number told.now.entry (account_of told.now.account.now) told.now.finishes) }
 {
-    let state = explainer.machine().state();
-    push_told(
-        text,
-        names,
-        state.entries(),
-        entry,
-        explainer.told(),
-        state.is_finished(),
-    )
+    push_number(text, told.number)?;
+    push_labelled(text, b"  time ", told.account.time)?;
+    text.extend_from_slice(b"  ")?;
+    push_actor(text, names, told.entry, told.account.actor)?;
+    push_parts(text, names, told.account, told.finishes)?;
+    text.extend_from_slice(b"\n")
 }

@@ -6,6 +6,7 @@ ghost use Rattle.model.specs.Turns.{contains};
 ghost use Rattle.steps.specs.Accounts.{account_of};
 ghost use Rattle.explain.specs.Wanted.{is_wanted, line_registers, updated_registers, wanted_registers};
 
+use crate::lines::ListedPart;
 use design::RegId;
 use steps::{EntryAccount, EntryActor};
 
@@ -26,34 +27,13 @@ fn updates_any(registers: &[RegId], actor: EntryActor) -> bool
     }
 }
 
-// Whether one of these registers is read.
-fn reads_any(registers: &[RegId], account: &EntryAccount) -> bool
-    ensures { result ≡ list_any (λ of. contains registers.now of.register) account.now.reads.items }
+// Whether one of some parts of a line names one of these registers.
+fn has_any_of<P: ListedPart>(registers: &[RegId], parts: &[P]) -> bool
+    ensures { result ≡ list_any (λ part. contains registers.now (P.part_register part)) parts.now }
 {
-    account
-        .reads
+    parts
         .iter()
-        .any(|of| has_register(registers, of.register))
-}
-
-// Whether one of these registers is changed.
-fn changes_any(registers: &[RegId], account: &EntryAccount) -> bool
-    ensures { result ≡ list_any (λ of. contains registers.now of.register) account.now.changes.items }
-{
-    account
-        .changes
-        .iter()
-        .any(|of| has_register(registers, of.register))
-}
-
-// Whether one of these registers is assigned.
-fn assigns_any(registers: &[RegId], account: &EntryAccount) -> bool
-    ensures { result ≡ list_any (λ of. contains registers.now of.reg) account.now.assigned.items }
-{
-    account
-        .assigned
-        .iter()
-        .any(|of| has_register(registers, of.reg))
+        .any(|part| has_register(registers, part.register()))
 }
 
 // Whether the line of an entry names one of these registers.
@@ -61,9 +41,9 @@ fn names_any(registers: &[RegId], account: &EntryAccount) -> bool
     ensures { result ≡ list_any (contains registers.now) (line_registers (account_of account.now)) }
 {
     let updated = updates_any(registers, account.actor);
-    let read = reads_any(registers, account);
-    let changed = changes_any(registers, account);
-    let assigned = assigns_any(registers, account);
+    let read = has_any_of(registers, &account.reads);
+    let changed = has_any_of(registers, &account.changes);
+    let assigned = has_any_of(registers, &account.assigned);
     updated | read | changed | assigned
 }
 
