@@ -64,15 +64,15 @@ sampled_of None = finding.Unfinished
 sampled_of (Some search_stop) = finding_of_stop search_stop
 
 -- what texts are that may not be all: this, unless memory was refused to those who might have found others
-abbrev pub unless_refused : Bool → SearchFinding → SearchFinding
-unless_refused false found = found
-unless_refused true found = finding.Memory
+abbrev pub or_refused : Bool → SearchFinding → SearchFinding
+or_refused false found = found
+or_refused true found = finding.Memory
 
 -- what no or one text is, of which this is claimed, by whether its run stops short and whether memory was refused where texts were looked for before the search
 abbrev pub few_of : Claim → ℕ → Bool → Bool → SearchFinding
 few_of (Every states endless) count stops refused = if count == 1 then only_of endless stops else finding.Unfinished
-few_of (SoFar search_stop) count stops refused = unless_refused refused (finding_of_stop search_stop)
-few_of (Sampled orders) count stops refused = unless_refused refused (sampled_of orders.stop)
+few_of (SoFar search_stop) count stops refused = or_refused refused (finding_of_stop search_stop)
+few_of (Sampled orders) count stops refused = or_refused refused (sampled_of orders.stop)
 
 -- what so many texts are, of which this is claimed, by whether the run of one of them stops short and whether memory was refused where texts were looked for before the search
 abbrev pub finding_of : Claim → ℕ → Bool → Bool → SearchFinding

@@ -1,7 +1,7 @@
 //! What a search of lawful orders has come to, as the exit status tells it.
 
 ghost use Rattle.std.specs.Prelude.{◌≡◌};
-ghost use Rattle.program.specs.Findings.{every_of, few_of, finding_of, finding_of_stop, only_of, sampled_of, unless_refused};
+ghost use Rattle.program.specs.Findings.{every_of, few_of, finding_of, finding_of_stop, only_of, sampled_of, or_refused};
 ghost use Rattle.program.specs.Program.{finding_status};
 
 use verdict::{Claim, SearchStop};
@@ -42,7 +42,7 @@ impl SearchFinding {
 
     /// What texts are that may not be all: this, unless memory was refused to those who might have found others.
     fn unless(self, refused: bool) -> SearchFinding
-        ensures { result ≡ unless_refused refused self }
+        ensures { result ≡ or_refused refused self }
     {
         match refused {
             true => SearchFinding::Memory,
