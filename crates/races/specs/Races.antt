@@ -46,10 +46,6 @@ IsRaceOf pair race = (race.site ≡ pair.site) × (race.first ≡ pair.first) ×
 abbrev pub IsNewBeside : List Race → Pair → Type 0
 IsNewBeside races pair = All (λ race. race.site ≡ pair.site → AreOfSame race.first race.second pair.first pair.second → ⊥) races
 
--- a run is one of the design within the limits, and wants no memory
-abbrev pub IsRemembered : Compiled → Limits → RunRecord → Type 0
-IsRemembered code limits run = IsRun code limits run × WantsNoMemory run
-
 -- A second run: it is one of the design within the limits, wants no memory, and is apart from the first run.
 pub record IsSecond (code : Compiled) (limits : Limits) (original exchanged : RunRecord) : Type 0 where
   pub run : IsRun code limits exchanged

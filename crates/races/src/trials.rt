@@ -2,7 +2,7 @@
 ghost use Rattle.std.specs.Prelude.{◌≡◌, ◌<◌, [], false, length, IfOk, IfNone, IfSome, IsTrue, None, Some, vec_len};
 ghost use Rattle.std.specs.List.{All, AllPairs};
 ghost use Rattle.runs.specs.RunRecords.{IsRun};
-ghost use Rattle.races.specs.Races.{AreOfSame, AreOthers, IsNewBeside, IsRaceOf, IsSecond, IsShownRace, IsRemembered, IsTrying, HasTried, AreToldRaces};
+ghost use Rattle.races.specs.Races.{AreOfSame, AreOthers, IsNewBeside, IsRaceOf, IsSecond, IsShownRace, IsTrying, HasTried, AreToldRaces};
 ghost use Rattle.races.specs.Unseen.{IsUnseen, KeepsUnseen};
 ghost use Rattle.conflicts.specs.declared.bounds.Bound.TheVariants.{Races, Pairs};
 
@@ -91,29 +91,6 @@ fn cut_before(conflicts: &Conflicts) -> Option<Bound>
     }
 }
 
-// A second run of a conflict with its entries in this order, if it can be made. Fails where it wants memory.
-fn made_run<P: Progress>(
-    task: RaceSearch<'_>,
-    conflict: &Conflict,
-    order: Order,
-    left: &mut u64,
-    progress: &P,
-) -> Result<Option<RunRecord>, AllocError>
-    ensures { IfOk result (λ made. IfSome made (IsRemembered task.entry.design.now task.entry.limits)) }
-{
-    match exchange(task, conflict, order, left, progress) {
-        Ok(Some(exchanged)) => {
-            if wants_memory(&exchanged) {
-                Err(AllocError)
-            } else {
-                Ok(Some(exchanged))
-            }
-        }
-        Ok(None) => Ok(None),
-        Err(error) => Err(error),
-    }
-}
-
 // The race that a conflict's second run shows, if the two runs have its entries in both orders.
 fn race_of(
     task: RaceSearch<'_>,
@@ -198,18 +175,21 @@ impl Trials {
         Ok(())
     }
 
-    // The second run, if it is apart from another run. Else it is looked for where it differs unseen.
+    // The second run, if it is apart from another run. Else it is looked for where it differs unseen. Fails where the second run wants memory.
     fn apart_run(
         &mut self,
         task: RaceSearch<'_>,
         from: &RunRecord,
         exchanged: RunRecord,
     ) -> Result<Option<RunRecord>, AllocError>
-        requires run { IsRemembered task.design.now task.limits exchanged }
+        requires run { IsRun task.design.now task.limits exchanged }
         ensures same { self.new ≡ record self.old { left = self.new.left; unseen = self.new.unseen } }
         ensures unseen { KeepsUnseen task.entry.design.now task.entry.limits task.entry.original.now self.old.unseen self.new.unseen }
         ensures made { IfOk result (λ made. IfSome made (IsSecond task.entry.design.now task.entry.limits from.now)) }
     {
+        if wants_memory(&exchanged) {
+            return Err(AllocError);
+        }
         if are_apart(from, &exchanged) {
             return Ok(Some(exchanged));
         }
@@ -238,7 +218,7 @@ impl Trials {
             return Ok(None);
         }
         self.tried += 1;
-        let made = match made_run(task, conflict, order, &mut self.left, progress)? {
+        let made = match exchange(task, conflict, order, &mut self.left, progress)? {
             Some(exchanged) => self.apart_run(task, from, exchanged)?,
             None => None,
         };

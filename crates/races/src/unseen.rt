@@ -43,28 +43,6 @@ fn push_other(
     Ok(())
 }
 
-// Keeps each register whose values differ.
-fn push_others(
-    found: &mut Vec<RegId>,
-    registers: u32,
-    firsts: &[Bits],
-    seconds: &[Bits],
-) -> Result<(), AllocError>
-    requires firsts { length firsts.now ≡ registers }
-    requires seconds { length seconds.now ≡ registers }
-    ensures { OnOk result (found.new.items ≡ found.old.items ++ other_values 0 firsts.now seconds.now) }
-{
-    for register in 0..registers {
-        push_other(
-            found,
-            register,
-            firsts[register as usize],
-            seconds[register as usize],
-        )?;
-    }
-    Ok(())
-}
-
 // The registers whose values differ where two machines stand.
 fn other_registers(
     alloc: Global,
@@ -76,13 +54,14 @@ fn other_registers(
 {
     one.stands();
     other.stands();
+    let registers = one.design().registers();
+    let firsts = one.store().values();
+    let seconds = other.store().values();
     let mut found = Vec::new(alloc);
-    push_others(
-        &mut found,
-        one.design().registers(),
-        one.store().values(),
-        other.store().values(),
-    )?;
+    for register in 0..registers {
+        let place = register as usize;
+        push_other(&mut found, register, firsts[place], seconds[place])?;
+    }
     Ok(found)
 }
 
