@@ -75,9 +75,10 @@ tells_nothing places code shown prefix old now =
     record { told = []; are_told = tt; new_is = sym (append-nil old); number_is = omega arith; kept = []; are_kept = tt; orders_is = sym (append-nil now.orders.items) }
 
 -- a race that has a number was told
-pub tells_numbered : (places : SourcePlaces) (code : Compiled) (shown : List (Shown Entry End)) (prefix : Option (List ℕ)) (original : RunRecord) (race : Race) (old new : List ℕ) (before after : ToldSoFar)
-    → is_line_order race.site ≡ false → TellsNumbered places code shown prefix original race old new before after → TellsSome places code shown prefix (parting_of original race ∷ []) old new before after
-tells_numbered places code shown prefix original race old new before after is tells =
+tells_numbered : (places : SourcePlaces) (code : Compiled) (shown : List (Shown Entry End)) (prefix : Option (List ℕ)) (original : RunRecord) (race : Race) (old new : List ℕ) (before after : ToldSoFar)
+    → is_line_order race.site ≡ false → TellsNumbered places code shown prefix original before.number race old new → after.number ≡ before.number + 1 → after.orders.items ≡ before.orders.items
+    → TellsSome places code shown prefix (parting_of original race ∷ []) old new before after
+tells_numbered places code shown prefix original race old new before after is tells next same =
     let p : PartingRace = parting_of original race in
     let one : numbered_causes (p ∷ []) ≡ p ∷ [] = ap (λ (b : Bool). if not b then p ∷ [] else []) is in
     let none : line_orders (p ∷ []) ≡ [] = ap (λ (b : Bool). if b then p ∷ [] else []) is in
@@ -85,10 +86,10 @@ tells_numbered places code shown prefix original race old new before after is te
       told = tells.told ∷ [];
       are_told = subst (λ (rs : List PartingRace). AreEachTold (IsCauseTold places code shown prefix) before.number rs (tells.told ∷ [])) (sym one) (tells.is_told, tt);
       new_is = tells.new_is ∙ ap (λ l. old ++ l) (sym (append-nil (race_text tells.told)));
-      number_is = subst (λ (rs : List PartingRace). after.number ≡ before.number + length rs) (sym one) tells.number_is;
+      number_is = subst (λ (rs : List PartingRace). after.number ≡ before.number + length rs) (sym one) next;
       kept = [];
       are_kept = subst (λ (rs : List PartingRace). AreOrdersOf shown rs []) (sym none) tt;
-      orders_is = tells.orders_is ∙ sym (append-nil before.orders.items);
+      orders_is = same ∙ sym (append-nil before.orders.items);
     }
 
 -- a race for the order of lines was kept
@@ -110,20 +111,16 @@ tells_order places code shown prefix original race old before after is adds =
     }
 
 -- so it is, and there is one number more at most, where it was told or kept
-pub numbered_tells : {A E : Type 0} (r : Result A E) (places : SourcePlaces) (code : Compiled) (shown : List (Shown Entry End)) (prefix : Option (List ℕ)) (original : RunRecord) (race : Race) (old new : List ℕ) (before after : ToldSoFar)
-    → is_line_order race.site ≡ false → OnOk r (TellsNumbered places code shown prefix original race old new before after) → OnOk r (TellsSome places code shown prefix (parting_of original race ∷ []) old new before after)
-numbered_tells (Ok x) places code shown prefix original race old new before after is tells = tells_numbered places code shown prefix original race old new before after is tells
-numbered_tells (Err e) places code shown prefix original race old new before after is tells = tt
+pub numbered_tells : (places : SourcePlaces) (code : Compiled) (shown : List (Shown Entry End)) (prefix : Option (List ℕ)) (original : RunRecord) (race : Race) (old new : List ℕ) (before : ToldSoFar)
+    → is_line_order race.site ≡ false → TellsNumbered places code shown prefix original before.number race old new
+    → TellsSome places code shown prefix (parting_of original race ∷ []) old new before (record before { number = before.number + 1 })
+numbered_tells places code shown prefix original race old new before is tells =
+    tells_numbered places code shown prefix original race old new before (record before { number = before.number + 1 }) is tells refl refl
 
 pub order_tells : {A E : Type 0} (r : Result A E) (places : SourcePlaces) (code : Compiled) (shown : List (Shown Entry End)) (prefix : Option (List ℕ)) (original : RunRecord) (race : Race) (old : List ℕ) (before after : ToldSoFar)
     → is_line_order race.site ≡ true → OnOk r (AddsOrder shown race before after) → OnOk r (TellsSome places code shown prefix (parting_of original race ∷ []) old old before after)
 order_tells (Ok x) places code shown prefix original race old before after is adds = tells_order places code shown prefix original race old before after is adds
 order_tells (Err e) places code shown prefix original race old before after is adds = tt
-
-pub numbered_few : {A E : Type 0} (r : Result A E) (places : SourcePlaces) (code : Compiled) (shown : List (Shown Entry End)) (prefix : Option (List ℕ)) (original : RunRecord) (race : Race) (old new : List ℕ) (before after : ToldSoFar)
-    → OnOk r (TellsNumbered places code shown prefix original race old new before after) → OnOk r (after.number ≤ before.number + 1)
-numbered_few (Ok x) places code shown prefix original race old new before after tells = omega (arith, tells.number_is)
-numbered_few (Err e) places code shown prefix original race old new before after tells = tt
 
 pub order_few : {A E : Type 0} (r : Result A E) (shown : List (Shown Entry End)) (race : Race) (before after : ToldSoFar) → OnOk r (AddsOrder shown race before after) → OnOk r (after.number ≤ before.number + 1)
 order_few (Ok x) shown race before after adds = omega (arith, adds.number_is)

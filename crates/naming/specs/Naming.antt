@@ -139,13 +139,11 @@ pub record AddsOrder (shown : List (Shown Entry End)) (race : found_race.Race) (
   pub orders_is : after.orders.items ≡ before.orders.items ++ order ∷ []
   pub number_is : after.number ≡ before.number
 
--- a text has grown by the lines on a race, with the next number
-pub record TellsNumbered (places : SourcePlaces) (code : Compiled) (shown : List (Shown Entry End)) (prefix : Option (List ℕ)) (original : RunRecord) (race : found_race.Race) (old new : List ℕ) (before after : ToldSoFar) : Type 0 where
+-- a text has grown by the lines on a race, with this number
+pub record TellsNumbered (places : SourcePlaces) (code : Compiled) (shown : List (Shown Entry End)) (prefix : Option (List ℕ)) (original : RunRecord) (number : ℕ) (race : found_race.Race) (old new : List ℕ) : Type 0 where
   pub told : RaceDescription
-  pub is_told : IsRaceTold places code shown prefix original before.number race told
+  pub is_told : IsRaceTold places code shown prefix original number race told
   pub new_is : new ≡ old ++ race_text told
-  pub number_is : after.number ≡ before.number + 1
-  pub orders_is : after.orders.items ≡ before.orders.items
 
 -- A text has grown by the lines on those of some races that have a number, from the next one on, and the others, which are for the order of lines, were kept.
 pub record TellsSome (places : SourcePlaces) (code : Compiled) (shown : List (Shown Entry End)) (prefix : Option (List ℕ)) (races : List PartingRace) (old new : List ℕ) (before after : ToldSoFar) : Type 0 where

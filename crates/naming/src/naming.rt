@@ -1,12 +1,12 @@
 //! Races that were found, told in lines.
-ghost use Rattle.std.specs.Prelude.{◌≡◌, ◌≢◌, ◌↔◌, ◌≤◌, ◌<◌, ◌+◌, ◌++◌, ◌∷◌, [], length, map, IfOk, IsTrue, OnOk, option_map, string_bytes};
-ghost use Rattle.tokens.specs.declared.cut.CutFault.TheVariants as faults;
+ghost use Rattle.std.specs.Prelude.{◌≡◌, ◌↔◌, ◌≤◌, ◌<◌, ◌+◌, ◌++◌, ◌∷◌, [], length, map, IfOk, IsTrue, OnOk, option_map, string_bytes};
 ghost use Rattle.naming.specs.Begins.{AreProcessesOf, begin_of};
+ghost use Rattle.naming.specs.LineOrders.{orders_text};
 ghost use Rattle.naming.specs.Naming.{AddsOrder, AreWordsOf, HasJournal, IsDifferenceTold, IsJournalTold, IsOrderOf, IsRaceTold, TellsBehind, TellsMoreBehind, TellsAlone, TellsNumbered, TellsSome, list_end_text, numbered_races, parting_of, unnamed_lines};
 
 use crate::alone::{differ_in_order, order_alone_line};
 use crate::line_orders::{LineOrder, push_orders};
-use crate::places::{SourcePlaces, places_with, statements_of};
+use crate::places::{SourcePlaces, none_uncut, places_with, statements_of};
 use crate::role_words::role_words;
 use crate::unseen::push_unseen;
 use crate::words::{cut_of, site_of};
@@ -21,7 +21,6 @@ use model::entry::Entry;
 use races::{Found, Race, is_line_order, numbers_of};
 use runs::run::RunRecord;
 use std::alloc::{AllocError, Global};
-use tokens::cut::CutFault;
 use verdict::{
     ProcessDescription, RaceDescription, RoleDescription, RunDescription, SiteDescription,
     first_difference, push_cut, push_race, push_unnamed,
@@ -80,13 +79,7 @@ pub fn push_races<'a>(
     let mut told = told_before(alloc, 0);
     push_parting(text, &mut told, names, &places, causes)?;
     push_each(text, &mut told, names, &places, found)?;
-    push_orders(
-        alloc,
-        text,
-        places.processes,
-        names.prefix,
-        told.orders.as_slice(),
-    )?;
+    push_kept(text, &told, names, &places)?;
     push_end(text, names.race_bounds, found.cut)
 }
 
@@ -124,17 +117,29 @@ pub fn push_more_races<'a>(
     let numbered = numbered_found(found.races.as_slice()) + numbered_count(early);
     let mut told = told_before(alloc, numbered);
     push_parting(text, &mut told, names, &places, more)?;
-    push_orders(
-        alloc,
-        text,
-        places.processes,
-        names.prefix,
-        told.orders.as_slice(),
-    )?;
+    push_kept(text, &told, names, &places)?;
     push_unnamed_texts(text, causes.unnamed.as_slice())?;
     push_end(text, names.race_bounds, causes.cut)?;
     push_alone(alloc, text, names.design, names.shown)?;
     push_unseen(alloc, text, names.design, names.shown.len(), &found.unseen)
+}
+
+/// Puts the lines on races for the order of lines, which were kept, behind a text. Fails where memory is refused.
+fn push_kept(
+    text: &mut Vec<u8>,
+    told: &ToldSoFar,
+    names: &RaceNames<'_>,
+    places: &SourcePlaces<'_>,
+) -> Result<(), AllocError>
+    ensures { OnOk result (text.new.items ≡ text.old.items ++ orders_text places.now.processes.now (option_map (λ path. path.now) names.entry.now.prefix) told.now.orders.items) }
+{
+    push_orders(
+        places.alloc,
+        text,
+        places.processes,
+        names.prefix,
+        &told.orders,
+    )
 }
 
 /// Puts the lines on texts for which no race was found behind a text.
@@ -173,43 +178,42 @@ fn push_parting<'a>(
 {
     for place in 0..causes.len() {
         let cause = &causes[place];
-        push_told(text, told, names, places, &cause.original, &cause.race)?;
+        told.push_told(text, names, places, &cause.original, &cause.race)?;
     }
     Ok(())
 }
 
-/// Puts the lines on a race behind a text, with the next number, or keeps it where it is for the order of lines. Fails where memory is refused.
-#[tactic(auto, using(crate::proofs::Races::numbered_tells, crate::proofs::Races::order_tells, crate::proofs::Races::numbered_few, crate::proofs::Races::order_few))]
-fn push_told<'a>(
-    text: &mut Vec<u8>,
-    told: &mut ToldSoFar,
-    names: &RaceNames<'a>,
-    places: &SourcePlaces<'_>,
-    original: &'a RunRecord,
-    race: &'a Race,
-) -> Result<(), AllocError>
-    requires { told.old.number < 18446744073709551615 }
-    ensures tells { OnOk result (TellsSome places.now names.entry.now.design.now names.entry.now.shown.now (option_map (λ path. path.now) names.entry.now.prefix) (parting_of original.entry.now race.entry.now ∷ []) text.old.items text.new.items told.old told.new) }
-    ensures few { OnOk result (told.new.number ≤ told.old.number + 1) }
-{
-    if is_line_order(race.site) {
-        keep_order(told, names.shown, race)
-    } else {
-        push_numbered(text, told, names, places, original, race)
+impl ToldSoFar {
+    /// Puts the lines on a race behind a text, with the next number, or keeps it where it is for the order of lines. Fails where memory is refused.
+    #[tactic(auto, using(crate::proofs::Races::numbered_tells, crate::proofs::Races::order_tells, crate::proofs::Races::order_few))]
+    fn push_told<'a>(
+        &mut self,
+        text: &mut Vec<u8>,
+        names: &RaceNames<'a>,
+        places: &SourcePlaces<'_>,
+        original: &'a RunRecord,
+        race: &'a Race,
+    ) -> Result<(), AllocError>
+        requires { self.old.number < 18446744073709551615 }
+        ensures tells { OnOk result (TellsSome places.now names.entry.now.design.now names.entry.now.shown.now (option_map (λ path. path.now) names.entry.now.prefix) (parting_of original.entry.now race.entry.now ∷ []) text.old.items text.new.items self.old self.new) }
+        ensures few { OnOk result (self.new.number ≤ self.old.number + 1) }
+    {
+        if is_line_order(race.site) {
+            return self.keep_order(names.shown, race);
+        }
+        push_numbered(text, names, places, original, race, self.number)?;
+        self.number += 1;
+        Ok(())
     }
-}
 
-/// Keeps a race for the order of lines, which is told behind the others. Fails where memory is refused.
-fn keep_order(
-    told: &mut ToldSoFar,
-    shown: &[Shown<Entry, End>],
-    race: &Race,
-) -> Result<(), AllocError>
-    ensures { OnOk result (AddsOrder shown.now race.now told.old told.new) }
-{
-    let order = order_of(shown, race);
-    told.orders.push(order)?;
-    Ok(())
+    /// Keeps a race for the order of lines, which is told behind the others. Fails where memory is refused.
+    fn keep_order(&mut self, shown: &[Shown<Entry, End>], race: &Race) -> Result<(), AllocError>
+        ensures { OnOk result (AddsOrder shown.now race.now self.old self.new) }
+    {
+        let order = order_of(shown, race);
+        self.orders.push(order)?;
+        Ok(())
+    }
 }
 
 /// A race for the order of lines, as it is told.
@@ -224,17 +228,16 @@ fn order_of(shown: &[Shown<Entry, End>], race: &Race) -> LineOrder
     }
 }
 
-/// Puts the lines on a race behind a text, with the next number. Fails where memory is refused.
+/// Puts the lines on a race behind a text, with this number. Fails where memory is refused.
 fn push_numbered<'a>(
     text: &mut Vec<u8>,
-    told: &mut ToldSoFar,
     names: &RaceNames<'a>,
     places: &SourcePlaces<'_>,
     original: &'a RunRecord,
     race: &'a Race,
+    number: usize,
 ) -> Result<(), AllocError>
-    requires { told.old.number < 18446744073709551615 }
-    ensures { OnOk result (TellsNumbered places.now names.entry.now.design.now names.entry.now.shown.now (option_map (λ path. path.now) names.entry.now.prefix) original.entry.now race.entry.now text.old.items text.new.items told.old told.new) }
+    ensures { OnOk result (TellsNumbered places.now names.entry.now.design.now names.entry.now.shown.now (option_map (λ path. path.now) names.entry.now.prefix) original.entry.now number race.entry.now text.old.items text.new.items) }
 {
     let site = site_of(names.design, race.site);
     let first = role_words(places, site, race.first)?;
@@ -244,9 +247,8 @@ fn push_numbered<'a>(
         first: first.as_str(),
         second: second.as_str(),
     };
-    let description = told_race(names, places, original, race, told.number, words);
+    let description = told_race(names, places, original, race, number, words);
     push_race(text, &description)?;
-    told.number += 1;
     Ok(())
 }
 
@@ -284,22 +286,7 @@ fn processes_of(alloc: Global, source: &[u8]) -> Result<Vec<locations::ProcessLo
 {
     match processes(alloc, source) {
         Ok(found) => Ok(found),
-        Err(fault) => without_processes(alloc, fault),
-    }
-}
-
-/// No processes, where a source isn't cut into tokens. Fails where that is for want of memory.
-fn without_processes(
-    alloc: Global,
-    fault: CutFault,
-) -> Result<Vec<locations::ProcessLocation>, AllocError>
-    ensures empty { IfOk result (λ found. found.items ≡ []) }
-    ensures known { IfOk result (λ _. fault ≢ faults.Memory) }
-{
-    match fault {
-        CutFault::Memory => Err(AllocError),
-        CutFault::Stray(_) => Ok(Vec::new(alloc)),
-        CutFault::BadNumber(_) => Ok(Vec::new(alloc)),
+        Err(fault) => none_uncut(alloc, fault),
     }
 }
 
@@ -316,7 +303,7 @@ fn push_each<'a>(
 {
     let races = found.races.as_slice();
     for place in 0..races.len() {
-        push_told(text, told, names, places, &found.original, &races[place])?;
+        told.push_told(text, names, places, &found.original, &races[place])?;
     }
     Ok(())
 }

@@ -47,15 +47,12 @@ pub(crate) fn statements_of<'a>(
 {
     match statement_tokens(alloc, source) {
         Ok(found) => Ok(found),
-        Err(fault) => without_statements(alloc, fault),
+        Err(fault) => none_uncut(alloc, fault),
     }
 }
 
-/// No tokens, where a source isn't cut into tokens. Fails where that is for want of memory.
-fn without_statements<'a>(
-    alloc: Global,
-    fault: CutFault,
-) -> Result<Vec<StatementToken<'a>>, AllocError>
+/// None of what is found in the tokens of a source, where it isn't cut into tokens. Fails where that is for want of memory.
+pub(crate) fn none_uncut<T>(alloc: Global, fault: CutFault) -> Result<Vec<T>, AllocError>
     ensures empty { IfOk result (λ found. found.items ≡ []) }
     ensures known { IfOk result (λ _. fault ≢ faults.Memory) }
 {

@@ -20,8 +20,8 @@ loop-place-preserved c =
     let item = c.index-races-place.result in
     let told = map (parting_of original) (take at races) in
     let some = tells_both places names.design.now names.shown.now prefix told (parting_of original item ∷ []) c.args.text.now.items c.loop-place.text.items c.push_told.new.text.items c.args.told.now c.loop-place.told
-    c.push_told.new.told c.loop-place.invariant.0 c.in_ok-push_told.ensures.tells in (
-      subst (λ (rs : List PartingRace). TellsSome places names.design.now names.shown.now prefix rs c.args.text.now.items c.push_told.new.text.items c.args.told.now c.push_told.new.told)
+    c.push_told.new.self c.loop-place.invariant.0 c.in_ok-push_told.ensures.tells in (
+      subst (λ (rs : List PartingRace). TellsSome places names.design.now names.shown.now prefix rs c.args.text.now.items c.push_told.new.text.items c.args.told.now c.push_told.new.self)
           (sym (partings_more original races at item c.loop-place-test.true c.index-races-place.is)) some,
       omega (arith, c.loop-place.invariant.1, c.in_ok-push_told.ensures.few),
     )

@@ -6,8 +6,6 @@ use Rattle.statements.specs.declared.statement_token.StatementToken.{StatementTo
 use Rattle.statements.specs.PlainStatementTokens.{plain_statement_token}
 use Rattle.naming.specs.Begins.{AreProcessesOf}
 use Rattle.naming.specs.SourcePlaces.{AreStatementsOf}
-use Rattle.naming.specs.LineOrders.{orders_text}
-use Rattle.naming.specs.declared.line_orders.LineOrder.{LineOrder}
 use Rattle.naming.specs.Naming.{TellsSome, numbered_before, numbered_races, unnamed_lines}
 use Rattle.naming.proofs.Races.{tells_more_behind}
 use Rattle.naming.proofs.naming.push_more_races.Goals as goal
@@ -30,7 +28,7 @@ returns c =
     let causes = c.args.causes.now in
     let old = c.args.text.now.items in
     let mid = c.push_parting.new.text.items in
-    let next = c.push_orders.new.text.items in
+    let next = c.push_kept.new.text.items in
     let started = c.told_before-told.result in
     let after = c.push_parting.new.told in
     let of_source = c.places_with-places.ensures in
@@ -40,8 +38,7 @@ returns c =
     let early_count : c.numbered_count.result ≡ length (numbered_causes (take before causes.causes.items)) = c.numbered_count.ensures.value ∙ ap (λ (cs : List PartingRace). length (numbered_causes cs)) early in
     let first : started.number ≡ numbered_before found before causes.causes.items + 1 = omega (arith, c.told_before-told.ensures.number, found_count, early_count) in
     let some = subst (λ (cs : List PartingRace). TellsSome places names.design.now names.shown.now prefix cs old mid started after) more c.in_ok-push_parting.ensures.tells in
-    let orders = c.in_ok-push_orders.ensures ∙ ap (λ (os : List LineOrder). mid ++ orders_text places.processes.now prefix os) c.as_slice-3.ensures.value in
-    let unnamed = c.in_ok-push_unnamed_texts.ensures ∙ ap (λ (ns : List ℕ). next ++ unnamed_lines ns) c.as_slice-4.ensures.value in
+    let unnamed = c.in_ok-push_unnamed_texts.ensures ∙ ap (λ (ns : List ℕ). next ++ unnamed_lines ns) c.as_slice-3.ensures.value in
     let seen = c.push_unseen.ensures in
     tells_more_behind c.push_unseen.result names.source.now places names.design.now names.shown.now prefix names.race_bounds found before causes old mid next c.push_unnamed_texts.new.text.items c.push_end.new.text.items c.push_alone.new.text.items c.push_unseen.new.text.items
-    started after of_source first c.told_before-told.ensures.none some orders unnamed c.in_ok-push_end.ensures c.in_ok-push_alone.ensures seen
+    started after of_source first c.told_before-told.ensures.none some c.in_ok-push_kept.ensures unnamed c.in_ok-push_end.ensures c.in_ok-push_alone.ensures seen

@@ -19,8 +19,8 @@ loop-place-preserved c =
     let causes = c.args.causes.now in
     let item = c.index-causes-place.result in
     let behind : take (at + 1) causes ≡ take at causes ++ item ∷ [] = take_more causes at item c.loop-place-test.true ∙ ap (λ (r : PartingRace). take at causes ++ r ∷ []) (sym c.index-causes-place.is) in
-    let some = tells_both places names.design.now names.shown.now prefix (take at causes) (item ∷ []) c.args.text.now.items c.loop-place.text.items c.push_told.new.text.items c.args.told.now c.loop-place.told c.push_told.new.told
+    let some = tells_both places names.design.now names.shown.now prefix (take at causes) (item ∷ []) c.args.text.now.items c.loop-place.text.items c.push_told.new.text.items c.args.told.now c.loop-place.told c.push_told.new.self
     c.loop-place.invariant.0 c.in_ok-push_told.ensures.tells in (
-      subst (λ (rs : List PartingRace). TellsSome places names.design.now names.shown.now prefix rs c.args.text.now.items c.push_told.new.text.items c.args.told.now c.push_told.new.told) (sym behind) some,
+      subst (λ (rs : List PartingRace). TellsSome places names.design.now names.shown.now prefix rs c.args.text.now.items c.push_told.new.text.items c.args.told.now c.push_told.new.self) (sym behind) some,
       omega (arith, c.loop-place.invariant.1, c.in_ok-push_told.ensures.few),
     )

@@ -1,10 +1,8 @@
-use Rattle.std.proofs.Common.{◌∙◌, ap, ◌++◌, List, map, option_map, sym, subst}
+use Rattle.std.proofs.Common.{List, map, option_map, sym, subst}
 use Rattle.statements.specs.declared.statement_token.StatementToken.{StatementToken}
 use Rattle.statements.specs.PlainStatementTokens.{plain_statement_token}
 use Rattle.naming.specs.Begins.{AreProcessesOf}
 use Rattle.naming.specs.SourcePlaces.{AreStatementsOf}
-use Rattle.naming.specs.LineOrders.{orders_text}
-use Rattle.naming.specs.declared.line_orders.LineOrder.{LineOrder}
 use Rattle.naming.specs.Naming.{parting_of}
 use Rattle.naming.proofs.Races.{tells_behind, tells_both}
 use Rattle.naming.proofs.naming.push_races.Goals as goal
@@ -30,6 +28,5 @@ returns c =
     let of_source = c.places_with-places.ensures in
     let some = tells_both places names.design.now names.shown.now prefix causes (map (parting_of found.original) found.races.items) old c.push_parting.new.text.items mid started c.push_parting.new.told
     c.push_each.new.told c.in_ok-push_parting.ensures.tells c.in_ok-push_each.ensures in
-    let orders = c.in_ok-push_orders.ensures ∙ ap (λ (os : List LineOrder). mid ++ orders_text places.processes.now prefix os) c.as_slice.ensures.value in
-    tells_behind c.push_end.result names.source.now places names.design.now names.shown.now prefix names.race_bounds found causes old mid c.push_orders.new.text.items c.push_end.new.text.items started
-    c.push_each.new.told of_source c.told_before-told.ensures.number c.told_before-told.ensures.none some orders c.push_end.ensures
+    tells_behind c.push_end.result names.source.now places names.design.now names.shown.now prefix names.race_bounds found causes old mid c.push_kept.new.text.items c.push_end.new.text.items started
+    c.push_each.new.told of_source c.told_before-told.ensures.number c.told_before-told.ensures.none some c.in_ok-push_kept.ensures c.push_end.ensures

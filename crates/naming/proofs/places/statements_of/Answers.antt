@@ -8,4 +8,4 @@ returns-in-Ok c = inl c.in-Ok.ensures.found
 
 pub returns-in-Err : goal.returns-in-Err
 returns-in-Err c =
-    no_statements c.without_statements.result c.args.source.now c.in-Err.fault c.in-Err.ensures.fault c.without_statements.ensures.empty c.without_statements.ensures.known
+    no_statements c.none_uncut.result c.args.source.now c.in-Err.fault c.in-Err.ensures.fault c.none_uncut.ensures.empty c.none_uncut.ensures.known
