@@ -5,9 +5,8 @@ ghost use Rattle.lawful.specs.ArrangedNodes.{IsNextArranged, IsPathArranged, reg
 ghost use Rattle.lawful.specs.ObservedWays.{AreEach};
 
 use crate::node::LooseNode;
-use crate::observed_ways::ObservedWays;
-use explore::{EndedPath, Expanded, Successor};
-use loose::transition::LooseTransition;
+use crate::retold::{NextNode, ObservedPath, ObservedWays, WayTelling, retold};
+use explore::{EndedPath, Successor};
 use looseruns::observed_end::ObservedEnd;
 use observers::Observing;
 use std::alloc::{AllocError, Global};
@@ -23,82 +22,51 @@ pub(crate) fn registers_of(observing: &Observing) -> usize
     }
 }
 
-// A successor of a node where this of the text isn't in order for good.
-fn arranged_next<'d>(
-    alloc: Global,
+// How ways are told before an observer of so many registers, from a node where this of the text isn't in order for good.
+#[derive(Clone, Copy)]
+struct InOrder<'a> {
     registers: usize,
-    tail: &TextTail,
-    next: Successor<LooseNode<'d>, LooseTransition>,
-) -> Result<Successor<LooseNode<'d>, LooseTransition>, AllocError>
-    ensures { IfOk result (IsNextArranged registers (text_with [] tail.now) next.entry) }
-{
-    let mut text = tail.copied(alloc)?;
-    let done = text.read(alloc, registers, &next.printed)?;
-    let Successor { node, moves, .. } = next;
-    let LooseNode { machine, .. } = node;
-    Ok(Successor {
-        node: LooseNode {
-            machine,
-            tail: text,
-        },
-        printed: done,
-        moves,
-    })
+    tail: &'a TextTail,
 }
 
-// The successors of a node where this of the text isn't in order for good.
-fn arranged_nexts<'d>(
-    alloc: Global,
-    registers: usize,
-    tail: &TextTail,
-    successors: Vec<Successor<LooseNode<'d>, LooseTransition>>,
-) -> Result<Vec<Successor<LooseNode<'d>, LooseTransition>>, AllocError>
-    ensures { IfOk result (λ arranged. AreEach (IsNextArranged registers (text_with [] tail.now)) successors.entry.items arranged.items) }
-{
-    let mut arranged = Vec::new(alloc);
-    for next in successors {
-        let one = arranged_next(alloc, registers, tail, next)?;
-        arranged.push(one)?;
+impl<'a> WayTelling for InOrder<'a> {
+    type End = ObservedEnd;
+
+    ghost tells_next = { λ a. IsNextArranged a.registers (text_with [] a.tail.now) };
+
+    ghost tells_end = { λ a. IsPathArranged a.registers (text_with [] a.tail.now) };
+
+    // A successor of a node where this of the text isn't in order for good.
+    fn tell_next<'d>(&self, alloc: Global, next: NextNode<'d>) -> Result<NextNode<'d>, AllocError> {
+        let mut text = self.tail.copied(alloc)?;
+        let done = text.read(alloc, self.registers, &next.printed)?;
+        let Successor { node, moves, .. } = next;
+        let LooseNode { machine, .. } = node;
+        Ok(Successor {
+            node: LooseNode {
+                machine,
+                tail: text,
+            },
+            printed: done,
+            moves,
+        })
     }
-    Ok(arranged)
-}
 
-// A way to an end from a node where this of the text isn't in order for good: what is left of it is told with what is seen at the end.
-fn arranged_path(
-    alloc: Global,
-    registers: usize,
-    tail: &TextTail,
-    ended: EndedPath<LooseTransition, ObservedEnd>,
-) -> Result<EndedPath<LooseTransition, ObservedEnd>, AllocError>
-    ensures { IfOk result (IsPathArranged registers (text_with [] tail.now) ended) }
-{
-    let mut text = tail.copied(alloc)?;
-    let done = text.read(alloc, registers, &ended.printed)?;
-    let seen = text.finish(alloc, registers, &ended.end.seen)?;
-    let EndedPath { end, moves, .. } = ended;
-    let ObservedEnd { end, .. } = end;
-    Ok(EndedPath {
-        printed: done,
-        end: ObservedEnd { end, seen },
-        moves,
-    })
-}
-
-// The ways to ends from a node where this of the text isn't in order for good.
-fn arranged_paths(
-    alloc: Global,
-    registers: usize,
-    tail: &TextTail,
-    ended: Vec<EndedPath<LooseTransition, ObservedEnd>>,
-) -> Result<Vec<EndedPath<LooseTransition, ObservedEnd>>, AllocError>
-    ensures { IfOk result (λ arranged. AreEach (IsPathArranged registers (text_with [] tail.now)) ended.items arranged.items) }
-{
-    let mut arranged = Vec::new(alloc);
-    for path in ended {
-        let one = arranged_path(alloc, registers, tail, path)?;
-        arranged.push(one)?;
+    // A way to an end from a node where this of the text isn't in order for good: what is left of it is told with what is seen at the end.
+    fn tell_end(&self, alloc: Global, ended: ObservedPath) -> Result<ObservedPath, AllocError>
+        ensures { IfOk result (IsPathArranged self.now.registers (text_with [] self.now.tail.now) ended) }
+    {
+        let mut text = self.tail.copied(alloc)?;
+        let done = text.read(alloc, self.registers, &ended.printed)?;
+        let seen = text.finish(alloc, self.registers, &ended.end.seen)?;
+        let EndedPath { end, moves, .. } = ended;
+        let ObservedEnd { end, .. } = end;
+        Ok(EndedPath {
+            printed: done,
+            end: ObservedEnd { end, seen },
+            moves,
+        })
     }
-    Ok(arranged)
 }
 
 /// The ways from a node before an observer of so many registers, where this of the text isn't in order for good: what they print and what is seen
@@ -113,16 +81,5 @@ pub(crate) fn arranged_ways<'d>(
     ensures ends { IfOk result (λ arranged. AreEach (IsPathArranged registers (text_with [] tail.now)) ways.entry.ended.items arranged.ended.items) }
     ensures whole { IfOk result (λ arranged. arranged.whole ≡ ways.entry.whole) }
 {
-    let Expanded {
-        successors,
-        ended,
-        whole,
-    } = ways;
-    let ended = arranged_paths(alloc, registers, tail, ended)?;
-    let successors = arranged_nexts(alloc, registers, tail, successors)?;
-    Ok(Expanded {
-        successors,
-        ended,
-        whole,
-    })
+    retold(alloc, &InOrder { registers, tail }, ways)
 }

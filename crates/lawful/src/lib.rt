@@ -10,7 +10,7 @@
 //!    covered, the texts and ends of all lawful journals in time are shown.
 //! 5. `journals` gives each text that is shown its lawful journal, and `endless` one to a run from which no run comes to an end.
 //! 6. `observed_orders` searches for what an observer sees of all lawful journals besides their lines. `observed_ways` tells what it sees of the
-//!    ways from a node, each of which goes on no further than to where time passes.
+//!    ways from a node, each of which goes on no further than to where time passes. `retold` tells each of them anew.
 //! 7. Before an observer lines of one time have no order: `arranged_ways` tells them once the time is over, in one order, and until then they stand in
 //!    the nodes. `tail_key` makes them a part of a node's key, `seen_again` makes such a node again, and `arranged_journals` finds the journal.
 //! 8. `telling` has what differs between the two searches: what is told of ways and of ends, and how a run gets its lawful journal.
@@ -29,6 +29,7 @@ mod journals;
 mod lawful;
 mod node;
 mod observed_ways;
+mod retold;
 mod search;
 mod search_room;
 mod seen_again;

@@ -9,16 +9,13 @@ ghost use Rattle.looseruns.specs.ObservedMoves.{StaysAtEntry, StaysInTime, Passe
 ghost use Rattle.lawful.specs.ObservedWays.{AreEach, IsEndSeen, IsNextSeen, IsToldOn};
 
 use crate::expand::LooseWays;
-use crate::node::LooseNode;
-use explore::{EndedPath, Expanded, Successor};
+use crate::retold::{NextNode, ObservedPath, ObservedWays, WayTelling, retold};
+use explore::{EndedPath, Successor};
 use loose::transition::LooseTransition;
 use looseruns::observed_end::ObservedEnd;
 use model::end::{End, Why};
 use model::entry::Entry;
 use std::alloc::{AllocError, Global};
-
-/// What following the ways from a node has come to before an observer.
-pub(crate) type ObservedWays<'d> = Expanded<LooseNode<'d>, LooseTransition, ObservedEnd>;
 
 // Whether an entry lets time pass. Else nothing is seen where it is taken.
 fn is_advance(entry: Entry) -> bool
@@ -98,43 +95,6 @@ fn told_on(
     Ok(told)
 }
 
-// A successor of a state of which this is seen.
-fn observed_next<'d>(
-    alloc: Global,
-    seen: &[u8],
-    next: Successor<LooseNode<'d>, LooseTransition>,
-) -> Result<Successor<LooseNode<'d>, LooseTransition>, AllocError>
-    ensures { IfOk result (IsNextSeen seen.now next.entry) }
-{
-    let Successor {
-        node,
-        printed,
-        moves,
-    } = next;
-    let told = told_on(alloc, seen, &moves, printed)?;
-    Ok(Successor {
-        node,
-        printed: told,
-        moves,
-    })
-}
-
-// The successors of a state of which this is seen.
-fn observed_nexts<'d>(
-    alloc: Global,
-    seen: &[u8],
-    successors: Vec<Successor<LooseNode<'d>, LooseTransition>>,
-) -> Result<Vec<Successor<LooseNode<'d>, LooseTransition>>, AllocError>
-    ensures { IfOk result (λ observed. AreEach (IsNextSeen seen.now) successors.entry.items observed.items) }
-{
-    let mut observed = Vec::new(alloc);
-    for next in successors {
-        let one = observed_next(alloc, seen, next)?;
-        observed.push(one)?;
-    }
-    Ok(observed)
-}
-
 // Whether a run has finished at this end.
 fn is_finish(end: End) -> bool
     ensures { IsTrue result ↔ (end ≡ Stopped Finish) }
@@ -164,44 +124,57 @@ fn seen_at_end(
     Ok(sight)
 }
 
-// A way to an end from a state of which this is seen. Fails where time passes on it, as it does on no way to an end.
-fn observed_path(
-    alloc: Global,
-    seen: &[u8],
-    ended: EndedPath<LooseTransition, End>,
-) -> Result<EndedPath<LooseTransition, ObservedEnd>, AllocError>
-    ensures { IfOk result (IsEndSeen seen.now ended) }
-{
-    let EndedPath {
-        printed,
-        end,
-        moves,
-    } = ended;
-    if !stay_in_time(&moves) {
-        return Err(AllocError);
-    }
-    let sight = seen_at_end(alloc, seen, end, &moves)?;
-    Ok(EndedPath {
-        printed,
-        end: ObservedEnd { end, seen: sight },
-        moves,
-    })
+// How ways are told from a state of which this is seen.
+#[derive(Clone, Copy)]
+struct SeenFrom<'a> {
+    seen: &'a [u8],
 }
 
-// The ways to ends from a state of which this is seen.
-fn observed_paths(
-    alloc: Global,
-    seen: &[u8],
-    ended: Vec<EndedPath<LooseTransition, End>>,
-) -> Result<Vec<EndedPath<LooseTransition, ObservedEnd>>, AllocError>
-    ensures { IfOk result (λ observed. AreEach (IsEndSeen seen.now) ended.items observed.items) }
-{
-    let mut observed = Vec::new(alloc);
-    for path in ended {
-        let one = observed_path(alloc, seen, path)?;
-        observed.push(one)?;
+impl<'a> WayTelling for SeenFrom<'a> {
+    type End = End;
+
+    ghost tells_next = { λ from. IsNextSeen from.seen.now };
+
+    ghost tells_end = { λ from. IsEndSeen from.seen.now };
+
+    // A successor of a state of which this is seen.
+    fn tell_next<'d>(&self, alloc: Global, next: NextNode<'d>) -> Result<NextNode<'d>, AllocError> {
+        let Successor {
+            node,
+            printed,
+            moves,
+        } = next;
+        let told = told_on(alloc, self.seen, &moves, printed)?;
+        Ok(Successor {
+            node,
+            printed: told,
+            moves,
+        })
     }
-    Ok(observed)
+
+    // A way to an end from a state of which this is seen. Fails where time passes on it, as it does on no way to an end.
+    fn tell_end(
+        &self,
+        alloc: Global,
+        ended: EndedPath<LooseTransition, End>,
+    ) -> Result<ObservedPath, AllocError>
+        ensures { IfOk result (IsEndSeen self.now.seen.now ended) }
+    {
+        let EndedPath {
+            printed,
+            end,
+            moves,
+        } = ended;
+        if !stay_in_time(&moves) {
+            return Err(AllocError);
+        }
+        let sight = seen_at_end(alloc, self.seen, end, &moves)?;
+        Ok(EndedPath {
+            printed,
+            end: ObservedEnd { end, seen: sight },
+            moves,
+        })
+    }
 }
 
 /// What an observer sees of the ways from a node, where this is what it sees of the node's state: it stands before the lines of a way that begins
@@ -215,16 +188,5 @@ pub(crate) fn observed_ways<'d>(
     ensures ends { IfOk result (λ observed. AreEach (IsEndSeen seen.now) ways.entry.ended.items observed.ended.items) }
     ensures whole { IfOk result (λ observed. observed.whole ≡ ways.entry.whole) }
 {
-    let Expanded {
-        successors,
-        ended,
-        whole,
-    } = ways;
-    let ended = observed_paths(alloc, seen, ended)?;
-    let successors = observed_nexts(alloc, seen, successors)?;
-    Ok(Expanded {
-        successors,
-        ended,
-        whole,
-    })
+    retold(alloc, &SeenFrom { seen }, ways)
 }

@@ -19,6 +19,13 @@ use regions::Machine;
 use std::alloc::{AllocError, Global};
 use turn::TurnLog;
 
+/// By what transitions are taken and seen: the classes of the registers, and what is observed.
+#[derive(Clone, Copy)]
+pub(crate) struct SeeingScope<'a> {
+    pub(crate) classes: &'a [u32],
+    pub(crate) observing: &'a Observing,
+}
+
 // Moves the lines that a machine printed so far behind a text.
 fn tell_lines(machine: &mut Machine<'_>, text: &mut Vec<u8>) -> Result<(), AllocError>
     ensures same { machine.new ≡ record machine.old { lines = [] } }
@@ -48,17 +55,16 @@ fn tell_before(
 // Takes a transition, and tells what is seen before it. Fails where it isn't taken.
 fn take_seen(
     machine: &mut Machine<'_>,
-    classes: &[u32],
-    observing: &Observing,
+    seeing: SeeingScope<'_>,
     text: &mut Vec<u8>,
     transition: LooseTransition,
 ) -> Result<(), AllocError>
     requires { IsInOrder (state_at machine.old) }
     ensures order { IsInOrder (state_at machine.new) }
-    ensures taken { OnOk result (HasSeenOne (class_in classes.now) (observer_of observing.now) machine.old text.old.items transition machine.new text.new.items) }
+    ensures taken { OnOk result (HasSeenOne (class_in seeing.entry.classes.now) (observer_of seeing.entry.observing.now) machine.old text.old.items transition machine.new text.new.items) }
 {
-    tell_before(machine, observing, text, transition)?;
-    match take_loosely(machine, classes, transition) {
+    tell_before(machine, seeing.observing, text, transition)?;
+    match take_loosely(machine, seeing.classes, transition) {
         Ok(()) => Ok(()),
         Err(_) => Err(AllocError),
     }
@@ -67,19 +73,18 @@ fn take_seen(
 // Takes transitions, one after another, and tells what is printed and seen at them.
 fn take_all_seen(
     machine: &mut Machine<'_>,
-    classes: &[u32],
-    observing: &Observing,
+    seeing: SeeingScope<'_>,
     text: &mut Vec<u8>,
     moves: &[LooseTransition],
 ) -> Result<(), AllocError>
     requires order { IsInOrder (state_at machine.old) }
     requires silent { machine.old.lines ≡ [] }
     requires untold { text.old.items ≡ [] }
-    ensures seen { OnOk result (HasSeenEach (class_in classes.now) (observer_of observing.now) machine.old moves.now machine.new text.new.items) }
+    ensures seen { OnOk result (HasSeenEach (class_in seeing.entry.classes.now) (observer_of seeing.entry.observing.now) machine.old moves.now machine.new text.new.items) }
     ensures silent { OnOk result (machine.new.lines ≡ []) }
 {
     for transition in moves {
-        take_seen(machine, classes, observing, text, *transition)?;
+        take_seen(machine, seeing, text, *transition)?;
     }
     tell_lines(machine, text)?;
     Ok(())
@@ -89,18 +94,17 @@ fn take_all_seen(
 fn go_seen(
     log: &mut TurnLog,
     machine: &mut Machine<'_>,
-    classes: &[u32],
-    observing: &Observing,
+    seeing: SeeingScope<'_>,
     text: &mut Vec<u8>,
     moves: &[LooseTransition],
 ) -> Result<(), AllocError>
     requires { text.old.items ≡ [] }
-    ensures { OnOk result (HasSeenAgain (class_in classes.now) (observer_of observing.now) machine.old moves.now machine.new text.new.items) }
+    ensures { OnOk result (HasSeenAgain (class_in seeing.entry.classes.now) (observer_of seeing.entry.observing.now) machine.old moves.now machine.new text.new.items) }
 {
     machine.stands_in_order();
     let _before = machine.take_lines();
     machine.exchange_log(log);
-    let taken = take_all_seen(machine, classes, observing, text, moves);
+    let taken = take_all_seen(machine, seeing, text, moves);
     machine.exchange_log(log);
     machine.stands();
     taken
@@ -111,24 +115,16 @@ fn go_seen(
 pub(crate) fn seen_again<'d>(
     alloc: Global,
     room: &mut SearchRoom,
-    observing: &Observing,
+    seeing: SeeingScope<'_>,
     from: &LooseNode<'d>,
-    classes: &[u32],
     moves: &[LooseTransition],
 ) -> Result<LooseNode<'d>, AllocError>
-    ensures { IfOk result (IsMadeAgain (class_in classes.now) observing.now from.now moves.now) }
+    ensures { IfOk result (IsMadeAgain (class_in seeing.entry.classes.now) seeing.entry.observing.now from.now moves.now) }
 {
     let mut tail = from.tail.copied(alloc)?;
     let mut text = Vec::new(alloc);
     let mut machine = copy_of(alloc, &from.machine)?;
-    go_seen(
-        &mut room.log,
-        &mut machine,
-        classes,
-        observing,
-        &mut text,
-        moves,
-    )?;
-    let _done = tail.read(alloc, registers_of(observing), &text)?;
+    go_seen(&mut room.log, &mut machine, seeing, &mut text, moves)?;
+    let _done = tail.read(alloc, registers_of(seeing.observing), &text)?;
     Ok(LooseNode { machine, tail })
 }

@@ -19,7 +19,7 @@ use crate::expand::LooseWays;
 use crate::node::LooseNode;
 use crate::observed_ways::observed_ways;
 use crate::search_room::SearchRoom;
-use crate::seen_again::seen_again;
+use crate::seen_again::{SeeingScope, seen_again};
 use crate::tail_key::fill_tail_key;
 use explore::{Expanded, Shown};
 use loose::transition::LooseTransition;
@@ -298,7 +298,11 @@ impl RunTelling for Observing {
         classes: &[u32],
         moves: &[LooseTransition],
     ) -> Result<LooseNode<'d>, AllocError> {
-        let node = seen_again(alloc, room, self, from, classes, moves)?;
+        let seeing = SeeingScope {
+            classes,
+            observing: self,
+        };
+        let node = seen_again(alloc, room, seeing, from, moves)?;
         Ok(node)
     }
 

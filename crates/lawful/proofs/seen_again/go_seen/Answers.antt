@@ -20,10 +20,10 @@ take_all_seen-taken-requires c =
 
 pub returns : goal.returns
 returns c =
-    let class = class_in c.args.classes.now in
+    let class = class_in c.args.seeing.classes.now in
     let m = c.args.machine.now in
     let same : c.exchange_log.new.self ≡ record m { lines = [] } = c.exchange_log.ensures ∙ c.take_lines-before.ensures.rest in
     let last = c.exchange_log-2.new.self in
     let taken = c.take_all_seen-taken.new.machine in
-    seen_after class (observer_of c.args.observing.now) m c.exchange_log.new.self taken last c.args.moves.now c.take_all_seen-taken.new.text.items c.take_all_seen-taken.result (ap state_at same) (ap (λ (p : MachineView). p.code) same) c.exchange_log-2.ensures
+    seen_after class (observer_of c.args.seeing.observing.now) m c.exchange_log.new.self taken last c.args.moves.now c.take_all_seen-taken.new.text.items c.take_all_seen-taken.result (ap state_at same) (ap (λ (p : MachineView). p.code) same) c.exchange_log-2.ensures
     c.stands.ensures.controls c.take_all_seen-taken.ensures.seen c.take_all_seen-taken.ensures.silent

@@ -10,9 +10,9 @@ use Rattle.lawful.proofs.seen_again.seen_again.Goals as goal
 
 pub returns : goal.returns
 returns c =
-    let observing = c.args.observing.now in
+    let observing = c.args.seeing.observing.now in
     let from = c.args.from.now in
-    let class = class_in c.args.classes.now in
+    let class = class_in c.args.seeing.classes.now in
     let told = c.go_seen.new.text.items in
     let begun : c.deref_mut.result.now ≡ from.machine.value = c.deref_mut.ensures.value ∙ (c.in_ok-machine.ensures ∙ c.deref.ensures) in
     let gone : HasSeenAgain class (observer_of observing) from.machine.value c.args.moves.now c.go_seen.new.machine told =

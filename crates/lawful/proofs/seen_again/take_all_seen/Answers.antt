@@ -15,27 +15,27 @@ loop-transition-init c =
     let m = c.args.machine.now in
     record {
       order = c.requires.order;
-      seen = seen_none (class_in c.args.classes.now) (observer_of c.args.observing.now) m (c.args.text.now.items ++ m.lines) c.requires.order (ap (λ l. l ++ m.lines) c.requires.untold ∙ c.requires.silent);
+      seen = seen_none (class_in c.args.seeing.classes.now) (observer_of c.args.seeing.observing.now) m (c.args.text.now.items ++ m.lines) c.requires.order (ap (λ l. l ++ m.lines) c.requires.untold ∙ c.requires.silent);
     }
 
 pub loop-transition-preserved : goal.loop-transition-preserved
 loop-transition-preserved c =
     let moves = c.args.moves.now in
     let at = c.loop-transition.transition-index in
-    let class = class_in c.args.classes.now in
-    let observe = observer_of c.args.observing.now in
+    let class = class_in c.args.seeing.classes.now in
+    let observe = observer_of c.args.seeing.observing.now in
     let m = c.take_seen.new.machine in
     let told = c.take_seen.new.text.items ++ m.lines in
     record {
       order = c.take_seen.ensures.order;
       seen = subst (λ (l : List LooseTransition). HasSeenEach class observe c.args.machine.now l m told) (sym (take_more moves at (Process 0) (omega arith)))
-          (seen_more class observe c.args.machine.now c.loop-transition.machine m (take at moves) (get_or moves at (Process 0)) c.loop-transition.text.items c.take_seen.new.text.items (observers_see_alike c.args.observing.now).0 c.requires.order c.loop-transition.invariant.seen c.in_ok-take_seen.ensures.taken);
+          (seen_more class observe c.args.machine.now c.loop-transition.machine m (take at moves) (get_or moves at (Process 0)) c.loop-transition.text.items c.take_seen.new.text.items (observers_see_alike c.args.seeing.observing.now).0 c.requires.order c.loop-transition.invariant.seen c.in_ok-take_seen.ensures.taken);
     }
 
 pub returns-clause-seen : goal.returns-clause-seen
 returns-clause-seen c =
-    let class = class_in c.args.classes.now in
-    let observe = observer_of c.args.observing.now in
+    let class = class_in c.args.seeing.classes.now in
+    let observe = observer_of c.args.seeing.observing.now in
     let m = c.loop-transition.machine in
     let seen : HasSeenEach class observe c.args.machine.now c.args.moves.now m (c.loop-transition.text.items ++ m.lines) =
     subst (λ (l : List LooseTransition). HasSeenEach class observe c.args.machine.now l m (c.loop-transition.text.items ++ m.lines)) (take_all c.loop-transition.transition-index c.args.moves.now (omega arith)) c.loop-transition.invariant.seen in

@@ -10,5 +10,5 @@ use Rattle.lawful.proofs.seen_again.take_all_seen.Given as goal
 abbrev pub invariant-loop-transition : goal.invariant-loop-transition
 invariant-loop-transition l = record {
   order : IsInOrder (state_at l.machine);
-  seen : HasSeenEach (class_in l.classes) (observer_of l.observing) l.fn.machine (take l.transition-index l.moves) l.machine (l.text.items ++ l.machine.lines);
+  seen : HasSeenEach (class_in l.seeing.classes.now) (observer_of l.seeing.observing.now) l.fn.machine (take l.transition-index l.moves) l.machine (l.text.items ++ l.machine.lines);
 }

@@ -15,5 +15,5 @@ returns-in_err-tell_before-clause-order c = subst (λ (m : MachineView). IsInOrd
 
 pub returns-in-Ok-clause-taken : goal.returns-in-Ok-clause-taken
 returns-in-Ok-clause-taken c =
-    seen_one (class_in c.args.classes.now) (observer_of c.args.observing.now) c.args.machine.now c.tell_before.new.machine c.take_loosely.new.machine c.args.text.now.items c.tell_before.new.text.items c.args.transition
+    seen_one (class_in c.args.seeing.classes.now) (observer_of c.args.seeing.observing.now) c.args.machine.now c.tell_before.new.machine c.take_loosely.new.machine c.args.text.now.items c.tell_before.new.text.items c.args.transition
     c.requires c.take_loosely.ensures.order c.tell_before.ensures.same c.in_ok-tell_before.ensures.told c.take_loosely.ensures.code c.in-Ok.ensures.taken

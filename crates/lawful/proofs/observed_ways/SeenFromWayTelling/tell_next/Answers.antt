@@ -2,7 +2,7 @@
 use Rattle.std.proofs.Common.{◌≡◌, ◌++◌, List, refl, subst}
 use Rattle.loose.specs.declared.transition.LooseTransition.{LooseTransition}
 use Rattle.looseruns.specs.ObservedMoves.{PassesTimeFirst, seen_first}
-use Rattle.lawful.proofs.observed_ways.observed_next.Goals as goal
+use Rattle.lawful.proofs.observed_ways.SeenFromWayTelling.tell_next.Goals as goal
 
 pub returns : goal.returns
 returns c =

@@ -5,12 +5,12 @@ use Rattle.loose.specs.declared.transition.LooseTransition.{LooseTransition}
 use Rattle.looseruns.specs.ObservedJournals.{SeenEnd}
 use Rattle.wavetexts.specs.Reading.{ReadText, read_on, text_with}
 use Rattle.lawful.proofs.ArrangedWays.{copy_reads, end_with, rest_reads}
-use Rattle.lawful.proofs.arranged_ways.arranged_path.Goals as goal
+use Rattle.lawful.proofs.arranged_ways.InOrderWayTelling.tell_end.Goals as goal
 
 pub returns : goal.returns
 returns c =
-    let registers = c.args.registers in
-    let tail = text_with [] c.args.tail.now in
+    let registers = c.args.self.now.registers in
+    let tail = text_with [] c.args.self.now.tail.now in
     let printed = c.args.ended.printed.items in
     let read : text_with c.in_ok-done.done.items c.read.new.self ≡ read_on registers tail printed =
     copy_reads registers tail c.in_ok-text.text c.read.new.self c.in_ok-done.done.items c.deref.result.now printed c.in_ok-text.ensures (c.deref.ensures.value ∙ ap (λ (e : EndedPath LooseTransition SeenEnd). e.printed.items) c.ended.view_is) c.in_ok-done.ensures in

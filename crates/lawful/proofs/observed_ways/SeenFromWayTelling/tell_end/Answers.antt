@@ -5,12 +5,12 @@ use Rattle.model.specs.declared.end.Why.TheVariants.{Finish}
 use Rattle.model.specs.declared.end.End.TheVariants.{Stopped}
 use Rattle.loose.specs.declared.transition.LooseTransition.{LooseTransition}
 use Rattle.looseruns.specs.ObservedMoves.{StaysInTime}
-use Rattle.lawful.proofs.observed_ways.observed_path.Goals as goal
+use Rattle.lawful.proofs.observed_ways.SeenFromWayTelling.tell_end.Goals as goal
 
 pub returns : goal.returns
 returns c =
     let sight = c.in_ok-sight.sight.items in
-    let here = subst (λ (l : List LooseTransition). c.args.ended.end ≢ Stopped Finish → (l ≡ []) × (sight ≡ c.args.seen.now)) c.deref-2.ensures.value c.in_ok-sight.ensures.here in
+    let here = subst (λ (l : List LooseTransition). c.args.ended.end ≢ Stopped Finish → (l ≡ []) × (sight ≡ c.args.self.now.seen.now)) c.deref-2.ensures.value c.in_ok-sight.ensures.here in
     record {
       moves_are = refl;
       printed_is = refl;
