@@ -2,9 +2,10 @@
 use Rattle.std.specs.Prelude.{◌≡◌, ℕ, ◌==◌, Bool, true, false, nat_lt, if◌then◌else◌, List, [], ◌∷◌, ◌++◌, length, Option, Some, None, codes, decimal}
 use Rattle.model.specs.declared.entry.Entry.{Entry}
 use Rattle.model.specs.Runs.{has_any}
+use Rattle.literals.specs.declared.literal.Radix.{Radix}
+use Rattle.literals.specs.Literals.{value_text}
 use Rattle.explain.specs.declared.phrases.SourceNames.{SourceNames}
 use Rattle.explain.specs.EntryText.{IsEntryLine}
-use Rattle.explain.specs.EntryLines.{styled_text}
 use Rattle.explain.specs.Phrases.{register_text}
 use Rattle.verdict.specs.RaceLines.{differing_line_text}
 use Rattle.verdict.specs.VerdictLines.{HaveSameLines, IsFirstDifference}
@@ -87,15 +88,15 @@ abbrev pub giver_text : Option ValueGiver → List ℕ
 giver_text (Some g) = codes " (entry " ++ decimal g.entry ++ done_by_text g.process ++ codes ")"
 giver_text None = []
 
--- a value, and which entry gave it
-abbrev pub given_text : SourceNames → GivenValue → List ℕ
-given_text names v = styled_text names v.value ++ giver_text v.by
+-- a value in these digits, and which entry gave it
+abbrev pub given_text : Radix → GivenValue → List ℕ
+given_text radix v = value_text radix v.value ++ giver_text v.by
 
 -- a register whose values differ
 abbrev pub row_text : SourceNames → ValueDifference → List ℕ
 row_text names d =
-    codes "time " ++ decimal d.time ++ codes "  " ++ register_text names d.register ++ codes "  " ++ given_text names d.first ++ codes "  "
-    ++ given_text names d.second ++ codes "\n"
+    codes "time " ++ decimal d.time ++ codes "  " ++ register_text names d.register ++ codes "  " ++ given_text names.style.radix d.first ++ codes "  "
+    ++ given_text names.style.radix d.second ++ codes "\n"
 
 -- so all of them
 abbrev pub row_lines : SourceNames → List ValueDifference → List ℕ

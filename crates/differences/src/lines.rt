@@ -7,7 +7,7 @@ use crate::ends::EndsCompared;
 use crate::summary::RunSummary;
 use crate::value_difference::{GivenValue, ValueDifference, ValueGiver};
 use explain::{SourceNames, has_any, push_labelled, push_register};
-use literals::push_value;
+use literals::{Radix, push_value};
 use std::alloc::AllocError;
 use verdict::{Difference, first_difference, push_line};
 
@@ -129,15 +129,11 @@ fn push_giver(text: &mut Vec<u8>, giver: Option<ValueGiver>) -> Result<(), Alloc
     }
 }
 
-// Puts a value behind a text, and the entry that gave it.
-fn push_given(
-    text: &mut Vec<u8>,
-    names: &SourceNames<'_>,
-    given: GivenValue,
-) -> Result<(), AllocError>
-    ensures { OnOk result (text.new.items ≡ text.old.items ++ given_text names.entry.now given) }
+// Puts a value in these digits behind a text, and the entry that gave it.
+fn push_given(text: &mut Vec<u8>, radix: Radix, given: GivenValue) -> Result<(), AllocError>
+    ensures { OnOk result (text.new.items ≡ text.old.items ++ given_text radix given) }
 {
-    push_value(text, names.style.radix, given.value)?;
+    push_value(text, radix, given.value)?;
     push_giver(text, given.by)
 }
 
@@ -153,9 +149,9 @@ fn push_row(
     text.extend_from_slice(b"  ")?;
     push_register(text, names, row.register)?;
     text.extend_from_slice(b"  ")?;
-    push_given(text, names, row.first)?;
+    push_given(text, names.style.radix, row.first)?;
     text.extend_from_slice(b"  ")?;
-    push_given(text, names, row.second)?;
+    push_given(text, names.style.radix, row.second)?;
     text.extend_from_slice(b"\n")
 }
 
