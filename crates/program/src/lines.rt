@@ -155,23 +155,27 @@ fn replay_line(fault: &BytesFault) -> SubjectLine<'_>
     }
 }
 
-/// What stands before the number of an entry of one of two journals.
-fn entry_head(side: JournalSide) -> &'static str
-    ensures { result.now ≡ entry_head side }
-{
-    match side {
-        JournalSide::First => "first journal: entry ",
-        JournalSide::Second => "second journal: entry ",
-    }
+/// By what a line tells which of two journals it is of: what stands before the number of an entry, and what behind a fault of the text.
+#[derive(Clone, Copy)]
+struct SideWords {
+    head: &'static str,
+    tail: &'static str,
 }
 
-/// What stands behind a fault of the text of one of two journals.
-fn journal_tail(side: JournalSide) -> &'static str
-    ensures { result.now ≡ journal_tail side }
+/// The words of one of two journals.
+fn side_words(side: JournalSide) -> SideWords
+    ensures head { result.head.now ≡ entry_head side }
+    ensures tail { result.tail.now ≡ journal_tail side }
 {
     match side {
-        JournalSide::First => " (first journal)",
-        JournalSide::Second => " (second journal)",
+        JournalSide::First => SideWords {
+            head: "first journal: entry ",
+            tail: " (first journal)",
+        },
+        JournalSide::Second => SideWords {
+            head: "second journal: entry ",
+            tail: " (second journal)",
+        },
     }
 }
 
@@ -179,10 +183,11 @@ fn journal_tail(side: JournalSide) -> &'static str
 fn journal_line(side: JournalSide, fault: JournalFault) -> SubjectLine<'static>
     ensures { line_of result ≡ journal_line side fault }
 {
+    let words = side_words(side);
     match fault {
-        JournalFault::Read(fault) => unread_line(fault, journal_tail(side)),
+        JournalFault::Read(fault) => unread_line(fault, words.tail),
         JournalFault::Replay(fault) => told_with(
-            entry_head(side),
+            words.head,
             Subject::Number(fault.entry),
             cause_code(fault.cause),
         ),
