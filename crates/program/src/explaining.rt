@@ -46,6 +46,7 @@ pub fn explain_journal<'a, F: Files, O: Write>(
     let subject = ExplainedSource {
         source: text,
         design: &design,
+        presentation: asked_presentation(request),
         registers: None,
     };
     let progress = files.progress_beside_output();
@@ -61,12 +62,12 @@ fn explain_asked<R: Read, O: Write, P: Progress>(
     out: &mut O,
     progress: &P,
 ) -> Result<Ending, CommandFault<'static>>
-    requires { IsDesignOf subject.source.now subject.design.now }
+    requires design { IsDesignOf subject.source.now subject.design.now }
+    requires presented { subject.presentation ≡ presentation_for request.now }
     ensures ended { (holding : Option (List ℕ → List ℕ)) (file journal_file : List ℕ) → IsHeld holding file subject.entry.source.now → IsOpened holding journal_file (R.remaining (held journal.old)) → IfOk result (HasExplainedTo holding file journal_file (option_map (λ names. names.now) request.now.registers) (presentation_for request.now) (O.contents out.old) (O.contents out.new)) }
     ensures refused { (holding : Option (List ℕ → List ℕ)) (file journal_file : List ℕ) → IsHeld holding file subject.entry.source.now → IsOpened holding journal_file (R.remaining (held journal.old)) → IfErr result (λ fault. status_of fault ≡ 5 → HasExplainedSome holding file journal_file (option_map (λ names. names.now) request.now.registers) (presentation_for request.now) (O.contents out.old) (O.contents out.new) fault) }
     ensures nothing { IfErr result (λ fault. status_of fault ≡ 3 → Keeps (O.contents out.old) (O.contents out.new)) }
 {
-    let presentation = asked_presentation(request);
     let asked = asked_registers(alloc, subject.design, request.registers)?;
     match asked {
         AskedRegisters::Every => {
@@ -74,29 +75,37 @@ fn explain_asked<R: Read, O: Write, P: Progress>(
                 registers: None,
                 ..subject
             };
-            explain_bytes(alloc, every, journal, presentation, out, progress)
+            explain_bytes(alloc, every, journal, out, progress)
         }
         AskedRegisters::Named(registers) => {
-            let named = told_alone(subject.source, subject.design, registers.as_slice());
-            explain_bytes(alloc, named, journal, presentation, out, progress)
+            let named = told_alone(
+                subject.source,
+                subject.design,
+                subject.presentation,
+                registers.as_slice(),
+            );
+            explain_bytes(alloc, named, journal, out, progress)
         }
         AskedRegisters::Unknown(name) => no_register(alloc, name),
     }
 }
 
-/// The design of a source, with the registers of which a journal is told alone.
+/// The design of a source, with how a journal is told on it, and the registers of which it is told alone.
 fn told_alone<'s>(
     source: &'s [u8],
     design: &'s Design,
+    presentation: Presentation,
     registers: &'s [RegId],
 ) -> ExplainedSource<'s>
     ensures source { result.source.now ≡ source.entry.now }
     ensures design { result.design.now ≡ design.entry.now }
+    ensures presentation { result.presentation ≡ presentation }
     ensures registers { wanted_registers result.registers ≡ Some registers.entry.now }
 {
     ExplainedSource {
         source,
         design,
+        presentation,
         registers: Some(registers),
     }
 }
@@ -145,16 +154,15 @@ fn explain_bytes<R: Read, O: Write, P: Progress>(
     alloc: Global,
     subject: ExplainedSource<'_>,
     journal: &mut Counted<R>,
-    presentation: Presentation,
     out: &mut O,
     progress: &P,
 ) -> Result<Ending, CommandFault<'static>>
     requires { IsDesignOf subject.source.now subject.design.now }
-    ensures ended { (holding : Option (List ℕ → List ℕ)) (file journal_file : List ℕ) (names : Option (List ℕ)) → IsHeld holding file subject.entry.source.now → IsOpened holding journal_file (R.remaining (held journal.old)) → AreAskedFor subject.entry.design.now names (wanted_registers subject.entry.registers) → IfOk result (HasExplainedTo holding file journal_file names presentation (O.contents out.old) (O.contents out.new)) }
-    ensures refused { (holding : Option (List ℕ → List ℕ)) (file journal_file : List ℕ) (names : Option (List ℕ)) → IsHeld holding file subject.entry.source.now → IsOpened holding journal_file (R.remaining (held journal.old)) → AreAskedFor subject.entry.design.now names (wanted_registers subject.entry.registers) → IfErr result (λ fault. status_of fault ≡ 5 → HasExplainedSome holding file journal_file names presentation (O.contents out.old) (O.contents out.new) fault) }
+    ensures ended { (holding : Option (List ℕ → List ℕ)) (file journal_file : List ℕ) (names : Option (List ℕ)) → IsHeld holding file subject.entry.source.now → IsOpened holding journal_file (R.remaining (held journal.old)) → AreAskedFor subject.entry.design.now names (wanted_registers subject.entry.registers) → IfOk result (HasExplainedTo holding file journal_file names subject.entry.presentation (O.contents out.old) (O.contents out.new)) }
+    ensures refused { (holding : Option (List ℕ → List ℕ)) (file journal_file : List ℕ) (names : Option (List ℕ)) → IsHeld holding file subject.entry.source.now → IsOpened holding journal_file (R.remaining (held journal.old)) → AreAskedFor subject.entry.design.now names (wanted_registers subject.entry.registers) → IfErr result (λ fault. status_of fault ≡ 5 → HasExplainedSome holding file journal_file names subject.entry.presentation (O.contents out.old) (O.contents out.new) fault) }
     ensures nothing { IfErr result (λ fault. status_of fault ≡ 3 → Keeps (O.contents out.old) (O.contents out.new)) }
 {
-    let told = explain(alloc, subject, journal, presentation, out, progress);
+    let told = explain(alloc, subject, journal, out, progress);
     progress.end();
     match told {
         Ok(()) => {

@@ -9,8 +9,8 @@ use Rattle.explain.proofs.telling.explain_on.Goals as goal
 
 pub returns-clause-told : goal.returns-clause-told
 returns-clause-told g c =
-    let telling : ExplanationOptions = record { names = record { source = c.args.subject.source; design = c.args.subject.design; processes = c.deref.result; style = c.args.presentation.style }; presentation = c.args.presentation; registers = c.args.subject.registers } in
-    explains_if _ c.args.subject.source.now c.args.subject.design.now (wanted_registers c.args.subject.registers) c.args.presentation c.args.entries.now (g.W.Write.contents c.args.out.now) (g.W.Write.contents c.explain_entries.new.out) telling (record {
+    let telling : ExplanationOptions = record { names = record { source = c.args.subject.source; design = c.args.subject.design; processes = c.deref.result; style = c.args.subject.presentation.style }; presentation = c.args.subject.presentation; registers = c.args.subject.registers } in
+    explains_if _ c.args.subject.source.now c.args.subject.design.now (wanted_registers c.args.subject.registers) c.args.subject.presentation c.args.entries.now (g.W.Write.contents c.args.out.now) (g.W.Write.contents c.explain_entries.new.out) telling (record {
       source_is = refl;
       design_is = refl;
       are_processes = subst (λ (l : List ProcessLocation). AreProcesses c.args.subject.source.now l) (sym c.deref.ensures.value) c.in-Ok.ensures.found;
@@ -21,8 +21,8 @@ returns-clause-told g c =
 
 pub returns-clause-stopped : goal.returns-clause-stopped
 returns-clause-stopped g c =
-    let telling : ExplanationOptions = record { names = record { source = c.args.subject.source; design = c.args.subject.design; processes = c.deref.result; style = c.args.presentation.style }; presentation = c.args.presentation; registers = c.args.subject.registers } in
-    explains_fault_if _ c.args.subject.source.now c.args.subject.design.now (wanted_registers c.args.subject.registers) c.args.presentation c.args.entries.now (g.W.Write.contents c.args.out.now) (g.W.Write.contents c.explain_entries.new.out) telling (record {
+    let telling : ExplanationOptions = record { names = record { source = c.args.subject.source; design = c.args.subject.design; processes = c.deref.result; style = c.args.subject.presentation.style }; presentation = c.args.subject.presentation; registers = c.args.subject.registers } in
+    explains_fault_if _ c.args.subject.source.now c.args.subject.design.now (wanted_registers c.args.subject.registers) c.args.subject.presentation c.args.entries.now (g.W.Write.contents c.args.out.now) (g.W.Write.contents c.explain_entries.new.out) telling (record {
       source_is = refl;
       design_is = refl;
       are_processes = subst (λ (l : List ProcessLocation). AreProcesses c.args.subject.source.now l) (sym c.deref.ensures.value) c.in-Ok.ensures.found;

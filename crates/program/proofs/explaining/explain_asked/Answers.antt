@@ -1,5 +1,5 @@
 -- The registers are those of the names that the request gives, and so is the presentation.
-use Rattle.std.proofs.Common.{◌≡◌, inl, option_map, subst, sym, List, ℕ, IfErr, IfOk}
+use Rattle.std.proofs.Common.{◌≡◌, ◌∙◌, inl, option_map, subst, sym, List, ℕ, IfErr, IfOk}
 use Rattle.std.specs.Borrow.{Bor}
 use Rattle.design.specs.Compiled.{Compiled}
 use Rattle.explain.specs.Wanted.{wanted_registers}
@@ -17,19 +17,19 @@ use Rattle.program.proofs.explaining.explain_asked.Goals as goal
 pub returns-in-Every-clause-ended : goal.returns-in-Every-clause-ended
 returns-in-Every-clause-ended g c = λ holding file journal is_held opened.
     let names = option_map (λ (n : Bor (List ℕ)). n.now) c.args.request.now.registers in
-    subst (λ (w : Presentation). IfOk c.explain_bytes.result (HasExplainedTo holding file journal names w (g.O.Write.contents c.args.out.now) (g.O.Write.contents c.explain_bytes.new.out))) c.asked_presentation-presentation.ensures
+    subst (λ (w : Presentation). IfOk c.explain_bytes.result (HasExplainedTo holding file journal names w (g.O.Write.contents c.args.out.now) (g.O.Write.contents c.explain_bytes.new.out))) c.requires.presented
     (c.explain_bytes.ensures.ended holding file journal names is_held opened (every_asked c.args.subject.design.now names c.in_ok-asked.asked c.in_ok-asked.ensures c.in-Every.is))
 
 pub returns-in-Every-clause-refused : goal.returns-in-Every-clause-refused
 returns-in-Every-clause-refused g c = λ holding file journal is_held opened.
     let names = option_map (λ (n : Bor (List ℕ)). n.now) c.args.request.now.registers in
-    subst (λ (w : Presentation). IfErr c.explain_bytes.result (λ (fault : CommandFault). status_of fault ≡ 5 → HasExplainedSome holding file journal names w (g.O.Write.contents c.args.out.now) (g.O.Write.contents c.explain_bytes.new.out) fault)) c.asked_presentation-presentation.ensures
+    subst (λ (w : Presentation). IfErr c.explain_bytes.result (λ (fault : CommandFault). status_of fault ≡ 5 → HasExplainedSome holding file journal names w (g.O.Write.contents c.args.out.now) (g.O.Write.contents c.explain_bytes.new.out) fault)) c.requires.presented
     (c.explain_bytes.ensures.refused holding file journal names is_held opened (every_asked c.args.subject.design.now names c.in_ok-asked.asked c.in_ok-asked.ensures c.in-Every.is))
 
 pub returns-in-Named-clause-ended : goal.returns-in-Named-clause-ended
 returns-in-Named-clause-ended g c = λ holding file journal is_held opened.
     let names = option_map (λ (n : Bor (List ℕ)). n.now) c.args.request.now.registers in
-    subst (λ (w : Presentation). IfOk c.explain_bytes-in-Named.result (HasExplainedTo holding file journal names w (g.O.Write.contents c.args.out.now) (g.O.Write.contents c.explain_bytes-in-Named.new.out))) c.asked_presentation-presentation.ensures
+    subst (λ (w : Presentation). IfOk c.explain_bytes-in-Named.result (HasExplainedTo holding file journal names w (g.O.Write.contents c.args.out.now) (g.O.Write.contents c.explain_bytes-in-Named.new.out))) (c.told_alone-named.ensures.presentation ∙ c.requires.presented)
     (c.explain_bytes-in-Named.ensures.ended holding file journal names (subst (IsHeld holding file) (sym c.told_alone-named.ensures.source) is_held) opened
     (subst (λ (d : Compiled). AreAskedFor d names (wanted_registers c.told_alone-named.result.registers)) (sym c.told_alone-named.ensures.design)
     (subst (AreAskedFor c.args.subject.design.now names) (sym c.told_alone-named.ensures.registers)
@@ -38,7 +38,7 @@ returns-in-Named-clause-ended g c = λ holding file journal is_held opened.
 pub returns-in-Named-clause-refused : goal.returns-in-Named-clause-refused
 returns-in-Named-clause-refused g c = λ holding file journal is_held opened.
     let names = option_map (λ (n : Bor (List ℕ)). n.now) c.args.request.now.registers in
-    subst (λ (w : Presentation). IfErr c.explain_bytes-in-Named.result (λ (fault : CommandFault). status_of fault ≡ 5 → HasExplainedSome holding file journal names w (g.O.Write.contents c.args.out.now) (g.O.Write.contents c.explain_bytes-in-Named.new.out) fault)) c.asked_presentation-presentation.ensures
+    subst (λ (w : Presentation). IfErr c.explain_bytes-in-Named.result (λ (fault : CommandFault). status_of fault ≡ 5 → HasExplainedSome holding file journal names w (g.O.Write.contents c.args.out.now) (g.O.Write.contents c.explain_bytes-in-Named.new.out) fault)) (c.told_alone-named.ensures.presentation ∙ c.requires.presented)
     (c.explain_bytes-in-Named.ensures.refused holding file journal names (subst (IsHeld holding file) (sym c.told_alone-named.ensures.source) is_held) opened
     (subst (λ (d : Compiled). AreAskedFor d names (wanted_registers c.told_alone-named.result.registers)) (sym c.told_alone-named.ensures.design)
     (subst (AreAskedFor c.args.subject.design.now names) (sym c.told_alone-named.ensures.registers)
@@ -48,7 +48,7 @@ pub returns-in-Unknown-clause-ended : goal.returns-in-Unknown-clause-ended
 returns-in-Unknown-clause-ended g c = λ holding file journal is_held opened.
     let names = option_map (λ (n : Bor (List ℕ)). n.now) c.args.request.now.registers in
     name_told_if holding file journal names (presentation_for c.args.request.now) c.in-Unknown.name.now (g.O.Write.contents c.args.out.now) c.no_register.result
-    (unknown_asked holding file c.args.subject.source.now c.args.subject.design.now names c.in_ok-asked.asked c.in-Unknown.name is_held c.requires c.in_ok-asked.ensures c.in-Unknown.is) c.no_register.ensures.told
+    (unknown_asked holding file c.args.subject.source.now c.args.subject.design.now names c.in_ok-asked.asked c.in-Unknown.name is_held c.requires.design c.in_ok-asked.ensures c.in-Unknown.is) c.no_register.ensures.told
 
 pub returns-in-Unknown-clause-refused : goal.returns-in-Unknown-clause-refused
 returns-in-Unknown-clause-refused g c = λ holding file journal is_held opened. if_err _ c.no_register.result (λ f five. inl (output_same (g.O.Write.contents c.args.out.now)))
