@@ -9,6 +9,7 @@ use Rattle.logic4.specs.Operators.{truth}
 use Rattle.model.specs.declared.tree.Change.TheVariants.{Any}
 use Rattle.model.specs.Syntax.{Expression, registers_of}
 use Rattle.model.specs.Design.{Design, Process, Statement, Empty, Assign, AssignAfter, AssignLater, Now, Delay, Await, If, While, Print, Finish, Statements, End, Then, Trigger, inside, all_of, size, all_statements, statement_at, process_at, first_place}
+use Rattle.model.specs.Elaboration.{followed_by}
 use Rattle.model.specs.Expressions.{Store, own_value, assigned_value}
 use Rattle.model.specs.Turns.{At, Remainder, Wait, OnChange, contains, parts, whole, most_steps}
 use Rattle.model.specs.Turns as turns
@@ -348,40 +349,84 @@ pub no_more : {A : Type 0} → (xs : List A) → xs ++ [] ≡ xs
 no_more [] = refl
 no_more (x ∷ xs) = ap (λ ys. x ∷ ys) (no_more xs)
 
--- behind the body the process waits again
-waits_again : (design : Design) (p now : ℕ) (inputs : List ℕ) (body : Statements) → IsCombinational design p inputs body → Stands design (first_place design p) (Then (Await (map {B = Trigger} (λ r. (Any, r)) inputs) body) End)
-    → Goes design p now (parts (first_place design p + 1) body) (OnChange (map (λ r. (Any, r)) inputs)) [] [] [] [] 2
-waits_again design p now inputs body h stands store =
+-- statements, and then others
+
+statements_both : (ss others : Statements) → all_of (followed_by ss others) ≡ all_of ss ++ all_of others
+statements_both End others = refl
+statements_both (Then s ss) others = ap (λ xs. s ∷ (inside s ++ xs)) (statements_both ss others) ∙ ap (λ xs. s ∷ xs) (sym (append_assoc (inside s) (all_of ss) (all_of others)))
+
+parts_both : (place : ℕ) (ss others : Statements) → parts place (followed_by ss others) ≡ parts place ss ++ parts (place + size ss) others
+parts_both place End others =
+    let same : place ≡ place + 0 = omega arith in
+    ap (λ n. parts n others) same
+parts_both place (Then s ss) others =
+    let next : ℕ = place + 1 + length (inside s) in
+    let sum : next + size ss ≡ place + size (Then s ss) = omega (arith, length-append (inside s) (all_of ss)) in
+    ap (λ xs. At place ∷ xs) (parts_both next ss others ∙ ap (λ n. parts next ss ++ parts n others) sum)
+
+stands_before : (design : Design) (n : ℕ) (ss others : Statements) → Stands design n (followed_by ss others) → Stands design n ss
+stands_before design n ss others (more, at) = (all_of others ++ more, at ∙ ap (λ xs. xs ++ more) (statements_both ss others) ∙ append_assoc (all_of ss) (all_of others) more)
+
+stands_behind : (design : Design) (n : ℕ) (ss others : Statements) → Stands design n (followed_by ss others) → Stands design (n + size ss) others
+stands_behind design n End others stands =
+    let same : n ≡ n + 0 = omega arith in
+    subst (λ k. Stands design k others) same stands
+stands_behind design n (Then s ss) others stands =
+    let sum : n + 1 + length (inside s) + size ss ≡ n + size (Then s ss) = omega (arith, length-append (inside s) (all_of ss)) in
+    subst (λ k. Stands design k others) sum (stands_behind design (n + 1 + length (inside s)) ss others (stands_others design n s (followed_by ss others) stands))
+
+-- at its event control the process waits
+waits_there : (design : Design) (p now at : ℕ) (ts : List Trigger) (behind : Statements) → statement_at design at ≡ Await ts behind → Goes design p now (parts (at + 1) behind) (OnChange ts) (At at ∷ []) [] [] [] 1
+waits_there design p now at ts behind there store = (
+  with_step [] (over_at_once (parts (at + 1) behind ++ []) (OnChange ts) false),
+  event at ts behind [] store there,
+  record { reads = λ r used. used; writes = λ r wrote. wrote; all = λ r here. here; nbas = refl; lines = refl; strobes = refl; finish = refl; rest = no_more (parts (at + 1) behind); wait = refl; count = omega arith },
+)
+
+-- where nothing is left of it, it begins again
+begins_again : (design : Design) (p now : ℕ) (rest left : Remainder) (wait : Wait) (rs ws sure : List ℕ) (most : ℕ) → (process_at design p).repeats ≡ true → whole design p ≡ left
+    → Goes design p now rest wait left rs ws sure most → Goes design p now rest wait [] rs ws sure (1 + most)
+begins_again design p now rest left wait rs ws sure most repeats is later store =
+    let (t, goes, has) = later store in
+    (with_step [] t, restarted store t repeats (subst (λ l. HasTurn design p now l store t) (sym is) goes), choose_has rest wait rs ws sure [] most t has)
+
+-- the turn behind the wait
+turn_goes : (design : Design) (p now : ℕ) (inputs : List ℕ) (before behind : Statements) → IsCombinational design p inputs before behind
+    → Goes design p now (parts (first_place design p + size before + 1) behind) (OnChange (map (λ r. (Any, r)) inputs)) (parts (first_place design p + size before + 1) behind ++ []) (reads behind (reads before []))
+    (written behind ++ (written before ++ [])) (settled behind ++ (settled before ++ [])) (size behind + (1 + (size before + 1)))
+turn_goes design p now inputs before behind h =
+    let first : ℕ = first_place design p in
+    let at : ℕ = first + size before in
     let ts : List Trigger = map (λ r. (Any, r)) inputs in
-    let at : ℕ = first_place design p in
-    let t : turns.Turn = with_step [] (over_at_once (parts (at + 1) body ++ []) (OnChange ts) false) in
-    let waits : HasTurn design p now (At at ∷ []) store t = event at ts body [] store (statement_there design at (Await ts body) End stands) in
-    let body_is : whole design p ≡ At at ∷ [] = ap (λ (x : Process). parts at x.body) h.process in
-    let repeats : (process_at design p).repeats ≡ true = ap (λ (x : Process). x.repeats) h.process in (
-      with_step [] t,
-      restarted store t repeats (subst (λ left. HasTurn design p now left store t) (sym body_is) waits),
-      record { reads = λ r used. used; writes = λ r wrote. wrote; all = λ r there. there; nbas = refl; lines = refl; strobes = refl; finish = refl; rest = no_more (parts (at + 1) body); wait = refl; count = omega arith },
-    )
+    let last : Statements = Then (Await ts behind) End in
+    let rest : Remainder = parts (at + 1) behind in
+    let wait : Wait = OnChange ts in
+    let stands : Stands design first (followed_by before last) =
+    body_at design.processes p (record { repeats = true; body = followed_by before last }) h.process refl in
+    let stands_last : Stands design at last = stands_behind design first before last stands in
+    let repeats : (process_at design p).repeats ≡ true = ap (λ (x : Process). x.repeats) h.process in
+    let whole_is : whole design p ≡ parts first before ++ At at ∷ [] = ap (λ (x : Process). parts first x.body) h.process ∙ parts_both first before last in
+    let waits : Goes design p now rest wait (At at ∷ []) [] [] [] 1 = waits_there design p now at ts behind (statement_there design at (Await ts behind) End stands_last) in
+    let body : Goes design p now rest wait (parts first before ++ At at ∷ []) (reads before []) (written before ++ []) (settled before ++ []) (size before + 1) =
+    all_go design p now first rest (At at ∷ []) wait before [] [] [] 1 (stands_before design first before last stands) h.plain_before waits in
+    let again : Goes design p now rest wait [] (reads before []) (written before ++ []) (settled before ++ []) (1 + (size before + 1)) =
+    begins_again design p now rest (parts first before ++ At at ∷ []) wait (reads before []) (written before ++ []) (settled before ++ []) (size before + 1) repeats whole_is body in
+    all_go design p now (at + 1) rest [] wait behind (reads before []) (written before ++ []) (settled before ++ []) (1 + (size before + 1)) (stands_awaited design at ts behind End stands_last) h.plain_behind again
 
 pub combinational_is_block : CombinationalIsBlock
-combinational_is_block design p inputs body h =
-    let at : ℕ = first_place design p in
-    let ts : List Trigger = map (λ r. (Any, r)) inputs in
-    let stands : Stands design at (Then (Await ts body) End) =
-    body_at design.processes p (record { repeats = true; body = Then (Await ts body) End }) h.process refl in
-    let goes : (now : ℕ) → Goes design p now (parts (at + 1) body) (OnChange ts) (parts (at + 1) body ++ []) (reads body []) (written body ++ []) (settled body ++ []) (size body + 2) =
-    λ now. all_go design p now (at + 1) (parts (at + 1) body) [] (OnChange ts) body [] [] [] 2 (stands_awaited design at ts body End stands) h.plain (waits_again design p now inputs body h stands) in
+combinational_is_block design p inputs before behind h =
+    let rest : Remainder = parts (first_place design p + size before + 1) behind in
     record {
       turns = λ store now.
-          let (t, has_turn, has) = goes now store in
-          let here : HasTurn design p now (parts (at + 1) body) store t = subst (λ left. HasTurn design p now left store t) (no_more (parts (at + 1) body)) has_turn in
+          let (t, has_turn, has) = turn_goes design p now inputs before behind h store in
+          let here : HasTurn design p now rest store t = subst (λ left. HasTurn design p now left store t) (no_more rest) has_turn in
           let short : t.count ≤ most_steps = omega (arith, has.count, h.short) in (
             t,
-            (short_turn_by_cases_is_exact design p (parts (at + 1) body) store now t).1 (here, short),
+            (short_turn_by_cases_is_exact design p rest store now t).1 (here, short),
             record {
               reads = λ r used. h.within r (has.reads r used);
-              writes = λ r wrote. ap (λ xs. contains xs r) (sym (no_more (written body))) ∙ has.writes r wrote;
-              all = λ r out. has.all r (ap (λ xs. contains xs r) (no_more (settled body)) ∙ h.all r out);
+              writes = λ r wrote. ap (λ xs. contains (written behind ++ xs) r) (sym (no_more (written before))) ∙ has.writes r wrote;
+              all = λ r out. has.all r (ap (λ xs. contains (settled behind ++ xs) r) (no_more (settled before)) ∙ h.all r out);
               nbas = has.nbas;
               lines = has.lines;
               strobes = has.strobes;

@@ -2,6 +2,7 @@
 use Rattle.std.specs.Prelude.{◌≡◌, ℕ, ◌+◌, ◌≤◌, Bool, true, false, ◌&&◌, List, [], ◌∷◌, ◌++◌, map, filter}
 use Rattle.model.specs.declared.tree.Change.TheVariants.{Any}
 use Rattle.model.specs.Syntax.{registers_of}
+use Rattle.model.specs.Elaboration.{followed_by}
 use Rattle.model.specs.Design.{Design, Statement, Empty, Assign, Await, If, Statements, End, Then, size, process_at, first_place}
 use Rattle.model.specs.Turns.{contains, parts, most_steps}
 use Rattle.model.specs.TurnCases.{all_but}
@@ -56,27 +57,29 @@ abbrev mutual
   settled End = []
   settled (Then s ss) = settled_one s ++ settled ss
 
--- The process is `always @(inputs) body`, where the body has blocks, blocking assignments without a delay and if alone. What it reads
--- before it writes it is an input, each register that it writes is written on every way through it and is no input, and its
--- turns are short.
-abbrev pub IsCombinational : Design → ℕ → List ℕ → Statements → Type 0
-IsCombinational design p inputs body =
+-- The process is `always begin before @(inputs) behind end`, where the statements before its wait and behind it are blocks, blocking
+-- assignments without a delay and if alone. Either may be none: `always @(inputs) behind`, or `always begin before @(inputs); end`.
+-- From one wait to the next it runs those behind its wait, and then those before it. What these read before they write it is an input,
+-- each register that they write is written on every way through them and is no input, and the turns of the process are short.
+abbrev pub IsCombinational : Design → ℕ → List ℕ → Statements → Statements → Type 0
+IsCombinational design p inputs before behind =
     record {
-      process : process_at design p ≡ record { repeats = true; body = Then (Await (map (λ r. (Any, r)) inputs) body) End };
-      plain : is_plain body ≡ true;
-      within : (r : ℕ) → contains (reads body []) r ≡ true → contains inputs r ≡ true;
-      all : (r : ℕ) → contains (written body) r ≡ true → contains (settled body) r ≡ true;
-      apart : (r : ℕ) → contains (written body) r ≡ true → contains inputs r ≡ false;
-      short : size body + 2 ≤ most_steps;
+      process : process_at design p ≡ record { repeats = true; body = followed_by before (Then (Await (map (λ r. (Any, r)) inputs) behind) End) };
+      plain_before : is_plain before ≡ true;
+      plain_behind : is_plain behind ≡ true;
+      within : (r : ℕ) → contains (reads behind (reads before [])) r ≡ true → contains inputs r ≡ true;
+      all : (r : ℕ) → contains (written behind ++ written before) r ≡ true → contains (settled behind ++ settled before) r ≡ true;
+      apart : (r : ℕ) → contains (written behind ++ written before) r ≡ true → contains inputs r ≡ false;
+      short : size before + size behind + 2 ≤ most_steps;
     }
 
 -- its block
-abbrev pub block_of : Design → ℕ → List ℕ → Statements → Block
-block_of design p inputs body =
-    record { rest = parts (first_place design p + 1) body; inputs = inputs; outputs = written body }
+abbrev pub block_of : Design → ℕ → List ℕ → Statements → Statements → Block
+block_of design p inputs before behind =
+    record { rest = parts (first_place design p + size before + 1) behind; inputs = inputs; outputs = written behind ++ written before }
 
 -- what is combinational by its text is a block, whatever the values of the registers
 abbrev pub CombinationalIsBlock : Type 0
 CombinationalIsBlock =
-    (design : Design) (p : ℕ) (inputs : List ℕ) (body : Statements) → IsCombinational design p inputs body
-    → IsBlock design p (block_of design p inputs body)
+    (design : Design) (p : ℕ) (inputs : List ℕ) (before behind : Statements) → IsCombinational design p inputs before behind
+    → IsBlock design p (block_of design p inputs before behind)
