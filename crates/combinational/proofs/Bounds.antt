@@ -21,7 +21,7 @@ both : (a b : Bool) → (a && b) ≡ true → (a ≡ true) × (b ≡ true)
 both true b h = (refl, h)
 both false b h = cc
 
-in_either : (xs ys : List ℕ) (r : ℕ) → contains (xs ++ ys) r ≡ true → contains xs r ≡ true ⊎ contains ys r ≡ true
+pub in_either : (xs ys : List ℕ) (r : ℕ) → contains (xs ++ ys) r ≡ true → contains xs r ≡ true ⊎ contains ys r ≡ true
 in_either xs ys r h = either (contains xs r) (contains ys r) (sym (append_tells xs ys r) ∙ h)
 
 one_of : (q r : ℕ) (n : ℕ) → q < n → (q == r || false) ≡ true → r < n

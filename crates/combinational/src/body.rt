@@ -1,5 +1,5 @@
 //! What the statements of a body do with a register: whether they may read it and write it, and whether they write it for certain.
-ghost use Rattle.std.specs.Prelude.{◌≡◌, ◌||◌, ℕ, List, []};
+ghost use Rattle.std.specs.Prelude.{◌≡◌, ◌||◌, ◌++◌, ℕ, List, []};
 ghost use Rattle.model.specs.Turns.{contains};
 ghost use Rattle.design.specs.DesignTrees.{statement_of, statements_of};
 ghost use Rattle.phases.specs.Combinational.{is_plain_one, is_plain as plain, reads_one, reads as all_reads, written_one, written, settled_one, settled};
@@ -52,18 +52,19 @@ pub(crate) struct DataFlow {
     pub(crate) must_write: bool,
 }
 
-/// What plain statements do with a register.
-pub(crate) fn data_flow(statements: &[Statement], register: RegId) -> DataFlow
-    ensures read { result.may_read ≡ contains (all_reads (statements_of statements.now) []) register }
-    ensures written { result.may_write ≡ contains (written (statements_of statements.now)) register }
-    ensures settled { result.must_write ≡ contains (settled (statements_of statements.now)) register }
+/// What plain statements do with a register, and then others behind them.
+pub(crate) fn data_flow(statements: &[Statement], others: &[Statement], register: RegId) -> DataFlow
+    ensures read { result.may_read ≡ contains (all_reads (statements_of statements.now) (all_reads (statements_of others.now) [])) register }
+    ensures written { result.may_write ≡ contains (written (statements_of statements.now) ++ written (statements_of others.now)) register }
+    ensures settled { result.must_write ≡ contains (settled (statements_of statements.now) ++ settled (statements_of others.now)) register }
 {
     let none = DataFlow {
         may_read: false,
         may_write: false,
         must_write: false,
     };
-    flow_before(statements, register, none)
+    let behind = flow_before(others, register, none);
+    flow_before(statements, register, behind)
 }
 
 // What statements do with a register, where they are plain, and what stands behind them.

@@ -6,4 +6,4 @@ use Rattle.combinational.proofs.block.reads_inputs.Given as goal
 
 -- those so far that it may read are inputs
 abbrev pub invariant-loop-register : goal.invariant-loop-register
-invariant-loop-register l = (r : ℕ) → r < l.register → contains (reads (statements_of l.body) []) r ≡ true → contains l.inputs r ≡ true
+invariant-loop-register l = (r : ℕ) → r < l.register → contains (reads (statements_of l.body) (reads (statements_of l.others) [])) r ≡ true → contains l.inputs r ≡ true

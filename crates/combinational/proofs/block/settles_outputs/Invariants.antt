@@ -1,4 +1,4 @@
-use Rattle.std.proofs.Common.{◌≡◌, ℕ, true, false, drop}
+use Rattle.std.proofs.Common.{◌≡◌, ◌++◌, ℕ, true, false, drop}
 use Rattle.model.specs.Turns.{contains}
 use Rattle.design.specs.DesignTrees.{statements_of}
 use Rattle.phases.specs.Combinational.{settled}
@@ -8,6 +8,6 @@ use Rattle.combinational.proofs.block.settles_outputs.Given as goal
 abbrev pub invariant-loop-output : goal.invariant-loop-output
 invariant-loop-output l =
     record {
-      sure : (r : ℕ) → contains l.outputs r ≡ true → contains (drop l.output-index l.outputs) r ≡ false → contains (settled (statements_of l.body)) r ≡ true;
+      sure : (r : ℕ) → contains l.outputs r ≡ true → contains (drop l.output-index l.outputs) r ≡ false → contains (settled (statements_of l.body) ++ settled (statements_of l.others)) r ≡ true;
       apart : (r : ℕ) → contains l.outputs r ≡ true → contains (drop l.output-index l.outputs) r ≡ false → contains l.inputs r ≡ false;
     }
