@@ -170,3 +170,8 @@ finished_after design journal exchanged before segment one other c finishes held
 pub where_yes : {A B E : Type 0} (r : Result Bool E) → (A → B) → IfOk r (λ is. IsTrue is → A) → IfOk r (λ is. IsTrue is → B)
 where_yes (Ok b) f h = λ t. f (h t)
 where_yes (Err e) f h = tt
+
+-- and what follows of two things where an answer is yes
+pub where_both_yes : {A B C E : Type 0} (r : Result Bool E) → (A → B → C) → IfOk r (λ is. IsTrue is → A) → IfOk r (λ is. IsTrue is → B) → IfOk r (λ is. IsTrue is → C)
+where_both_yes (Ok b) f g h = λ t. f (g t) (h t)
+where_both_yes (Err e) f g h = tt

@@ -34,7 +34,7 @@ impl<'a> ExchangeClaim<'a> {
             None => return Ok(None),
         };
         let mut follower = Follower::start(self.alloc, self.design)?;
-        if follower.sees(split, self.pair) {
+        if follower.sees(split, self.pair)? {
             Ok(Some(split))
         } else {
             Ok(None)
@@ -51,7 +51,7 @@ impl<'a> ExchangeClaim<'a> {
         ensures { IfOk result (λ sees. IsTrue sees → SeesExchanged asked (design_of self.entry.design.now) split.entry.before.now exchanged.entry.needed.now exchanged.entry.other split.entry.one self.entry.pair) }
     {
         let mut follower = Follower::start(self.alloc, self.design)?;
-        Ok(follower.sees_exchanged(split, exchanged, self.pair, asked))
+        follower.sees_exchanged(split, exchanged, self.pair, asked)
     }
 
     /// Whether the two entries do what the pair says of them, and come the other way round in the second journal. In the first each is
@@ -93,7 +93,7 @@ impl<'a> ExchangeClaim<'a> {
         ensures { IfOk result (λ sees. IsTrue sees → SeesHeld (design_of self.entry.design.now) held.entry.before.now held.entry.segment.now held.entry.one held.entry.other self.entry.pair) }
     {
         let mut follower = Follower::start(self.alloc, self.design)?;
-        Ok(follower.sees_held(held, self.pair))
+        follower.sees_held(held, self.pair)
     }
 
     /// Whether the last entry of the first journal, which is the pair's earlier one, finishes that run, and comes later in the second
