@@ -48,18 +48,19 @@ impl<'a> Followed<'a> {
         })
     }
 
-    // Takes the next entry and those behind it, up to the next advance. The answer is whether there are any, and all were taken.
-    fn pass(&mut self) -> bool {
+    // Takes the next entry and those behind it, up to the next advance. The answer is whether there are any, and all were taken. Fails
+    // where memory is refused.
+    fn pass(&mut self) -> Result<bool, AllocError> {
         let to = next_advance(self.journal, self.taken.saturating_add(1));
         if to <= self.taken {
-            return false;
+            return Ok(false);
         }
         match self.journal.get(self.taken..to) {
             Some(entries) => {
                 self.taken = to;
                 lead(&mut self.machine, entries)
             }
-            None => false,
+            None => Ok(false),
         }
     }
 
@@ -93,8 +94,17 @@ fn is_some_other(one: &Machine<'_>, other: &Machine<'_>) -> bool {
     false
 }
 
+// Leads both further. The answer is whether that was done. Fails where memory is refused.
+fn pass_both(one: &mut Followed<'_>, other: &mut Followed<'_>) -> Result<bool, AllocError> {
+    if !one.pass()? {
+        return Ok(false);
+    }
+    other.pass()
+}
+
 // Leads the one further whose registers may have other values first, or both where that is at one time. The answer is whether that was done.
-fn pass_next(one: &mut Followed<'_>, other: &mut Followed<'_>) -> bool {
+// Fails where memory is refused.
+fn pass_next(one: &mut Followed<'_>, other: &mut Followed<'_>) -> Result<bool, AllocError> {
     let (next, next_other) = (one.next_time(), other.next_time());
     if next < next_other {
         return one.pass();
@@ -102,24 +112,27 @@ fn pass_next(one: &mut Followed<'_>, other: &mut Followed<'_>) -> bool {
     if next_other < next {
         return other.pass();
     }
-    one.pass() && other.pass()
+    pass_both(one, other)
 }
 
-// Follows two journals to the first time that passes where registers differ, if there is one.
-fn follow_beside(one: &mut Followed<'_>, other: &mut Followed<'_>) -> Option<Passing> {
+// Follows two journals to the first time that passes where registers differ, if there is one. Fails where memory is refused.
+fn follow_beside(
+    one: &mut Followed<'_>,
+    other: &mut Followed<'_>,
+) -> Result<Option<Passing>, AllocError> {
     for _ in 0..one.journal.len().saturating_add(other.journal.len()) {
         if is_some_other(&one.machine, &other.machine) {
-            return Some(Passing {
+            return Ok(Some(Passing {
                 time: one.machine.time().max(other.machine.time()),
                 first: one.taken,
                 second: other.taken,
-            });
+            }));
         }
-        if !pass_next(one, other) {
-            return None;
+        if !pass_next(one, other)? {
+            return Ok(None);
         }
     }
-    None
+    Ok(None)
 }
 
 /// Where the first time passes at which registers differ in the runs of two journals, if there is one.
@@ -131,8 +144,8 @@ pub(crate) fn first_parting(
 ) -> Result<Option<Passing>, AllocError> {
     let mut one = Followed::start(alloc, design, first)?;
     let mut other = Followed::start(alloc, design, second)?;
-    if one.pass() && other.pass() {
-        Ok(follow_beside(&mut one, &mut other))
+    if pass_both(&mut one, &mut other)? {
+        follow_beside(&mut one, &mut other)
     } else {
         Ok(None)
     }

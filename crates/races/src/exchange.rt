@@ -97,7 +97,10 @@ impl<'a> ExchangeLead<'a> {
             Some(entries) => entries,
             None => return Ok(false),
         };
-        if run.machine.state().is_active() || !lead(machine, entries) {
+        if run.machine.state().is_active() {
+            return Ok(false);
+        }
+        if !lead(machine, entries)? {
             return Ok(false);
         }
         if !have_one_state(task.alloc, &run.machine, machine)? {

@@ -101,13 +101,18 @@ fn passes_in_both(
         && passes_in(other, second, passing.second, passing.time)
 }
 
-// Leads a machine from its start behind so many entries of a journal. The answer is whether there are so many, and all were taken.
-fn lead_behind(machine: &mut Machine<'_>, journal: &[Entry], count: usize) -> bool
+// Leads a machine from its start behind so many entries of a journal. The answer is whether there are so many, and all were taken. Fails
+// where memory is refused.
+fn lead_behind(
+    machine: &mut Machine<'_>,
+    journal: &[Entry],
+    count: usize,
+) -> Result<bool, AllocError>
     requires { state_at machine.old ≡ start (design_of machine.old.code) }
-    ensures { IsTrue result → StandsInRun machine.old.code journal.now count machine.new }
+    ensures { IfOk result (λ all. IsTrue all → StandsInRun machine.old.code journal.now count machine.new) }
 {
     if count > journal.len() {
-        return false;
+        return Ok(false);
     }
     lead(machine, journal.split_at(count).0)
 }
@@ -123,7 +128,7 @@ fn stand_behind<'d>(
 {
     let machine = Machine::start(alloc, design)?;
     let mut machine = Box::new(alloc, machine)?;
-    if lead_behind(&mut machine, journal, count) {
+    if lead_behind(&mut machine, journal, count)? {
         Ok(Some(machine))
     } else {
         Ok(None)
