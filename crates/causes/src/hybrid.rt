@@ -11,6 +11,7 @@ use conflicts::{JournaledMachine, RunTransition, repeat, transition_of};
 use model::end::{End, Why};
 use model::entry::Entry;
 use progress::{Progress, tell_entries};
+use runs::compared::wants_memory;
 use runs::run::RunRecord;
 use std::alloc::{AllocError, Global};
 
@@ -68,7 +69,7 @@ pub(crate) struct TracedRun {
     pub(crate) transitions: Vec<RunTransition>,
 }
 
-// Takes an entry, and notes it on a track. The answer is whether it was taken.
+// Takes an entry, and notes it on a track. The answer is whether it was taken. Fails where memory is refused.
 fn take_along(
     run: &mut JournaledMachine<'_>,
     track: &mut Track<'_>,
@@ -78,14 +79,14 @@ fn take_along(
     ensures { HasGoneOn run.old run.new }
 {
     let taken = transition_of(&run.machine, entry);
-    if !repeat(run, &[entry]) {
+    if !repeat(run, &[entry])? {
         return Ok(false);
     }
     track.pass(taken)?;
     Ok(true)
 }
 
-// Takes entries, and notes them on a track. The answer is whether all were taken.
+// Takes entries, and notes them on a track. The answer is whether all were taken. Fails where memory is refused.
 fn take_all_along(
     run: &mut JournaledMachine<'_>,
     track: &mut Track<'_>,
@@ -213,7 +214,7 @@ fn trace(
 {
     for entry in journal {
         let taken = transition_of(&run.machine, *entry);
-        if !repeat(run, &[*entry]) {
+        if !repeat(run, &[*entry])? {
             return Ok(());
         }
         transitions.push(taken)?;
@@ -239,7 +240,7 @@ fn trace_on<P: Progress>(
 }
 
 /// A run that takes the entries of a journal, and its transitions up to there, if one may still be made. It is taken off those that may, and its
-/// entries too. None where none are left.
+/// entries too. None where none are left. Fails where memory is refused, also to the run.
 pub(crate) fn traced<P: Progress>(
     setting: HybridSetting<'_>,
     journal: &[Entry],
@@ -263,7 +264,12 @@ pub(crate) fn traced<P: Progress>(
     );
     making.take(run.journal.len());
     match run.told_if(setting.search.alloc, end) {
-        Ok(Some(run)) => Ok(Some(TracedRun { run, transitions })),
+        Ok(Some(run)) => {
+            if wants_memory(&run) {
+                return Err(AllocError);
+            }
+            Ok(Some(TracedRun { run, transitions }))
+        }
         Ok(None) => Ok(None),
         Err(error) => Err(error),
     }

@@ -372,7 +372,7 @@ fn confirmed(
     let mut run = setting.start()?;
     let mut recorder = RunRecorder::start(alloc, design, PAIR_BOUNDS);
     let journal = original.journal.as_slice();
-    record_two(alloc, &mut run, &mut recorder, PAIR_BOUNDS, journal, place);
+    record_two(alloc, &mut run, &mut recorder, PAIR_BOUNDS, journal, place)?;
     match first_of(setting, &recorder.conflicts, original, exchanged, false)? {
         Some(pair) => Ok(Some(pair)),
         None => first_of(setting, &recorder.conflicts, original, exchanged, true),

@@ -16,8 +16,8 @@ use model::entry::Entry;
 use progress::{Progress, tell_entries};
 use regions::Machine;
 use runs::run::RunRecord;
-use std::alloc::Global;
-use turn::{Suspend, TurnLog};
+use std::alloc::{AllocError, Global};
+use turn::{FillFault, Suspend, TurnLog};
 
 /// Who made an event: the process of a turn, or that of the turn that made an update, and its place in the journal.
 #[derive(Clone, Copy)]
@@ -151,11 +151,16 @@ impl RunRecorder {
         }
     }
 
-    // Notes an evaluation that is left behind.
+    // Notes an evaluation that is left behind. Where memory is refused to its turn, the list of conflicts is cut.
     fn note_left_turn(&mut self, machine: &Machine<'_>, number: u64) {
         let process = match machine.evaluate(&mut self.left, number, 0) {
             Ok(Some(process)) => process,
-            _ => return,
+            Ok(None) => return,
+            Err(FillFault::TooLong) => return,
+            Err(FillFault::Memory) => {
+                self.conflicts.cut_by(Bound::Memory);
+                return;
+            }
         };
         let does = if self.left.lines().is_empty() {
             Does::Runs
@@ -357,28 +362,31 @@ fn record_entry(
     }
 }
 
-// Takes entries of a journal, as far as they may be taken. The answer is whether all were taken.
+// Takes entries of a journal, as far as they may be taken. The answer is whether all were taken. Fails where memory is refused.
 fn record_all(
     run: &mut JournaledMachine<'_>,
     recorder: &mut RunRecorder,
     log: &mut TurnLog,
     entries: &[Entry],
-) -> bool
+) -> Result<bool, AllocError>
     requires { IsUnderWay run.old }
     ensures { HasGoneOn run.old run.new }
 {
     for entry in entries {
         if !run.may_take(entry) {
-            return false;
+            return Ok(false);
         }
-        if record_given(run, recorder, log, *entry).is_some() {
-            return false;
+        match record_given(run, recorder, log, *entry) {
+            Some(End::Stopped(Why::Memory)) => return Err(AllocError),
+            Some(_) => return Ok(false),
+            None => {}
         }
     }
-    true
+    Ok(true)
 }
 
-/// Takes the entries of a journal up to the one at a place and the one behind that, and notes what these two do alone.
+/// Takes the entries of a journal up to the one at a place and the one behind that, and notes what these two do alone. Fails where memory
+/// is refused.
 pub fn record_two(
     alloc: Global,
     run: &mut JournaledMachine<'_>,
@@ -386,20 +394,24 @@ pub fn record_two(
     bounds: RaceBounds,
     journal: &[Entry],
     place: usize,
-)
+) -> Result<(), AllocError>
     requires { IsUnderWay run.old }
     ensures { HasGoneOn run.old run.new }
 {
     let mut log = TurnLog::new(alloc);
     let (before, rest) = journal.split_at(place.min(journal.len()));
     let (two, _) = rest.split_at(rest.len().min(2));
-    if !record_all(run, recorder, &mut log, before) {
-        return;
+    if !record_all(run, recorder, &mut log, before)? {
+        return Ok(());
     }
     recorder.begin_anew(alloc, bounds, place, run.machine.time());
-    let _ = record_all(run, recorder, &mut log, two);
+    let _ = record_all(run, recorder, &mut log, two)?;
     recorder.finish();
     recorder.segment.find_updating(&mut recorder.conflicts);
+    match recorder.conflicts.cut {
+        Some(Bound::Memory) => Err(AllocError),
+        _ => Ok(()),
+    }
 }
 
 /// Makes the first run, which takes the first entry that may be next at each choice, from its start.

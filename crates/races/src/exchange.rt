@@ -1,7 +1,7 @@
 //! The second run of a conflict, in which the order of its two entries is turned.
 ghost use Rattle.std.specs.Prelude.{IfOk, IfSome};
 ghost use Rattle.runs.specs.RunRecords.{IsRun};
-ghost use Rattle.conflicts.specs.RunEndings.{IsUnderWay, HasFollowed, HasGoneOn, HasGoneTo};
+ghost use Rattle.conflicts.specs.RunEndings.{IsUnderWay, HasFollowed, HasGoneOn};
 
 use crate::follow::{follow_made, follow_on, follow_segment, lead_all};
 use crate::guide::Guide;
@@ -109,8 +109,8 @@ impl<'a> ExchangeLead<'a> {
         have_one_text(task.alloc, &run.machine, machine)
     }
 
-    // Takes the entries of the first run before the pair. The answer is whether all were taken.
-    fn repeat_before(self, run: &mut JournaledMachine<'_>) -> bool
+    // Takes the entries of the first run before the pair. The answer is whether all were taken. Fails where memory is refused.
+    fn repeat_before(self, run: &mut JournaledMachine<'_>) -> Result<bool, AllocError>
         requires { IsUnderWay run.old }
         ensures { HasGoneOn run.old run.new }
     {
@@ -119,13 +119,14 @@ impl<'a> ExchangeLead<'a> {
         repeat(run, journal.split_at(count).0)
     }
 
-    // Takes the entries of the first run before the pair, and those in its place. The answer is whether all were taken.
-    fn take_all(self, run: &mut JournaledMachine<'_>) -> bool
+    // Takes the entries of the first run before the pair, and those in its place. The answer is whether all were taken. Fails where memory
+    // is refused.
+    fn take_all(self, run: &mut JournaledMachine<'_>) -> Result<bool, AllocError>
         requires { IsUnderWay run.old }
         ensures { HasGoneOn run.old run.new }
     {
-        if !self.repeat_before(run) {
-            return false;
+        if !self.repeat_before(run)? {
+            return Ok(false);
         }
         lead_all(run, self.task.transitions, self.places)
     }
@@ -141,11 +142,11 @@ impl<'a> ExchangeLead<'a> {
         requires { IsUnderWay run.old }
         ensures { HasFollowed run.old run.new result }
     {
-        if !self.repeat_before(run) {
+        if !self.repeat_before(run)? {
             return Ok(None);
         }
         let mut machine = copy_of(self.task.alloc, &run.machine)?;
-        if !lead_all(run, self.task.transitions, self.places) {
+        if !lead_all(run, self.task.transitions, self.places)? {
             return Ok(None);
         }
         let mut guide = self.guide();
@@ -160,40 +161,42 @@ impl<'a> ExchangeLead<'a> {
     }
 
     // Takes the entries of the first run before the pair, and those in its place, of which the last finishes the run. None where one may
-    // not be taken, or the run hasn't finished.
-    fn cut_off(self, run: &mut JournaledMachine<'_>) -> Option<End>
+    // not be taken, or the run hasn't finished. Fails where memory is refused.
+    fn cut_off(self, run: &mut JournaledMachine<'_>) -> Result<Option<End>, AllocError>
         requires { IsUnderWay run.old }
-        ensures { HasGoneTo run.old run.new result }
+        ensures { HasFollowed run.old run.new result }
     {
-        if !self.take_all(run) {
-            return None;
+        if !self.take_all(run)? {
+            return Ok(None);
         }
-        run.end()
+        Ok(run.end())
     }
 
     // Takes the entries of the first run before its last one, another one and what comes of it, then the last one, and goes on. None
-    // where one of those may not be taken, or it has as many entries as it may have.
+    // where one of those may not be taken, or it has as many entries as it may have. Fails where memory is refused to those.
     fn held_back<P: Progress>(
         self,
         other: Entry,
         run: &mut JournaledMachine<'_>,
         progress: &P,
-    ) -> Option<End>
+    ) -> Result<Option<End>, AllocError>
         requires { IsUnderWay run.old }
-        ensures { HasGoneTo run.old run.new result }
+        ensures { HasFollowed run.old run.new result }
     {
-        if !self.repeat_before(run) {
-            return None;
+        if !self.repeat_before(run)? {
+            return Ok(None);
         }
-        if !repeat(run, &[other]) {
-            return None;
+        if !repeat(run, &[other])? {
+            return Ok(None);
         }
-        if !follow_made(run, MOST_STEPS) {
-            return None;
+        if !follow_made(run, MOST_STEPS)? {
+            return Ok(None);
         }
-        let last = self.task.original.journal.get(self.pair.earlier).copied()?;
-        if !repeat(run, &[last]) {
-            return None;
+        let Some(last) = self.task.original.journal.get(self.pair.earlier).copied() else {
+            return Ok(None);
+        };
+        if !repeat(run, &[last])? {
+            return Ok(None);
         }
         let mut guide = Guide {
             transitions: &[],
@@ -201,20 +204,24 @@ impl<'a> ExchangeLead<'a> {
             taken: &[],
             later: 0,
         };
-        follow_on(run, &mut guide, self.most, progress)
+        Ok(follow_on(run, &mut guide, self.most, progress))
     }
 
     // Takes the entries of the first run before the pair, and those in its place, in which the two keep their order, and goes on. None
-    // where one may not be taken, or it has as many entries as it may have.
-    fn kept<P: Progress>(self, run: &mut JournaledMachine<'_>, progress: &P) -> Option<End>
+    // where one may not be taken, or it has as many entries as it may have. Fails where memory is refused to those in its place.
+    fn kept<P: Progress>(
+        self,
+        run: &mut JournaledMachine<'_>,
+        progress: &P,
+    ) -> Result<Option<End>, AllocError>
         requires { IsUnderWay run.old }
-        ensures { HasGoneTo run.old run.new result }
+        ensures { HasFollowed run.old run.new result }
     {
-        if !self.take_all(run) {
-            return None;
+        if !self.take_all(run)? {
+            return Ok(None);
         }
         let mut guide = self.guide();
-        follow_on(run, &mut guide, self.most, progress)
+        Ok(follow_on(run, &mut guide, self.most, progress))
     }
 
     // Leads a run as the order of the pair's entries is turned, or kept.
@@ -228,10 +235,10 @@ impl<'a> ExchangeLead<'a> {
         ensures { HasFollowed run.old run.new result }
     {
         match (order, self.turning) {
-            (Order::Kept, _) => Ok(self.kept(run, progress)),
+            (Order::Kept, _) => self.kept(run, progress),
             (Order::Turned, Turning::Swapped) => self.swapped(run, progress),
-            (Order::Turned, Turning::CutOff) => Ok(self.cut_off(run)),
-            (Order::Turned, Turning::HeldBack(other)) => Ok(self.held_back(other, run, progress)),
+            (Order::Turned, Turning::CutOff) => self.cut_off(run),
+            (Order::Turned, Turning::HeldBack(other)) => self.held_back(other, run, progress),
         }
     }
 }
