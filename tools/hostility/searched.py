@@ -1,7 +1,8 @@
 """searched: searches for races whose allocations are refused, each in turn, alone and with all after it, and searches in little memory.
 
 A search that wants memory tells no race, no text and no status that it doesn't tell with enough: its races are among those of the whole search, and so are
-the texts of its journals; `every lawful run` is said where the whole search says it of the same texts; and the status is that of the whole search, or 6."""
+the texts of its journals; `every lawful run` is said where the whole search says it of the same texts; and the status is that of the whole search, or 6.
+Where it prints anything else than the whole search, it says that memory was refused."""
 import glob
 import os
 import re
@@ -102,7 +103,10 @@ class Search:
         if not self.texts_in(room) <= self.texts:
             return "a text of its own"
         told = [it for it in VERDICT.findall(answer.out) if b"every lawful run" in it or b"no lawful run" in it]
-        return None if told in ([], self.every) else f"another verdict: {told!r}"
+        if told not in ([], self.every):
+            return f"another verdict: {told!r}"
+        is_told = answer.status == 6 or b"memory was refused" in answer.out
+        return None if is_told or answer.out == self.own.out else "other lines, and no word of memory"
 
 
 def refused(hostile, search, library, how):

@@ -1,5 +1,5 @@
 -- Texts that are known, and texts that are added to them.
-use Rattle.std.proofs.Common.{◌≡◌, ◌⊎◌, ◌∙◌, inl, inr, sym, subst, refl, ℕ, ◌+◌, ◌<◌, ltb, Bool, true, false, IsTrue, ◌≤◌, List, [], ◌∷◌, ◌++◌, length, get_or, Some, arith, string_bytes}
+use Rattle.std.proofs.Common.{◌≡◌, ◌⊎◌, ◌∙◌, inl, inr, sym, subst, refl, ℕ, ◌+◌, ◌<◌, ltb, Bool, true, false, IsTrue, ◌≤◌, List, [], ◌∷◌, ◌++◌, length, get_or, Option, Some, None, is_some, if◌then◌else◌, arith, string_bytes}
 use Rattle.std.specs.List.{All, AllPairs, Contains}
 use Rattle.std.proofs.lemmas.Bool.{ltb-true, ltb-false}
 use Rattle.std.proofs.lemmas.List.{get_or_default}
@@ -21,8 +21,9 @@ use Rattle.races.specs.declared.told.Found.{Found}
 use Rattle.races.specs.declared.told.Race.{Race}
 use Rattle.conflicts.specs.declared.bounds.RaceBounds.{RaceBounds}
 use Rattle.arguments.specs.declared.search_options.SearchOptions.{SearchOptions}
+use Rattle.conflicts.specs.declared.bounds.Bound.{Bound}
 use Rattle.program.specs.declared.known.KnownTexts.{KnownTexts}
-use Rattle.program.specs.Findings.{AreFew, AreKnown, AreRaces, AreRacesKnown, HasGrown, IsKnown, IsLawfulShown, IsShownRun, limits_in}
+use Rattle.program.specs.Findings.{AreFew, AreKnown, AreRaces, AreRacesKnown, HasGrown, HasRefused, IsKnown, IsLawfulShown, IsShownRun, lacks_memory, limits_in}
 use Rattle.program.proofs.Few.{no_longer}
 
 -- the text of a run that came to its end is that of a lawful journal
@@ -144,3 +145,17 @@ all_known code search_options found a b c most lawful few_b few more more' first
     λ k d lt. subst (λ (n : ℕ). IsKnown n c.shown.items (get_or found.races.items k d).exchanged) most (still_known b c (get_or found.races.items k d).exchanged more' few.few (others k d lt)),
   );
 }
+
+-- memory was refused before a search, or not
+
+-- random orders that take the place of the search aren't none
+pub none_before : (samples : Option ℕ) (refused : Bool) → is_some samples ≡ false → (count : ℕ) → samples ≡ Some count → refused ≡ false
+none_before None refused none count is = absurd (clash is)
+none_before (Some one) refused none count is = absurd (clash none)
+
+-- by what the list of races says, and by whether it was refused to random orders, where such were tried before the search
+pub refused_by : (samples : Option ℕ) (cut : Option Bound) (orders refused : Bool) → refused ≡ (if orders then true else lacks_memory cut) → ((count : ℕ) → samples ≡ Some count → orders ≡ false) → HasRefused samples cut refused
+refused_by None cut true refused is alone = λ lacks. is
+refused_by None cut false refused is alone = λ lacks. is ∙ lacks
+refused_by (Some count) cut true refused is alone = absurd (clash (alone count refl))
+refused_by (Some count) cut false refused is alone = is

@@ -41,7 +41,7 @@ use Rattle.program.specs.declared.racing.NamedRaces.{NamedRaces}
 use Rattle.program.specs.declared.racing.ToldRaces.{ToldRaces}
 use Rattle.program.specs.declared.finding.SearchFinding.{SearchFinding}
 use Rattle.program.specs.declared.finding.SearchFinding.TheVariants as finding
-use Rattle.program.specs.Findings.{AreFound, AreKnown, AreRaces, AreRacesKnown, HaveSomeEnds, finding_of, first_text, have_stops, journals_of, lacks_memory, limits_in, stops_from, until_line}
+use Rattle.program.specs.Findings.{AreFound, AreKnown, AreRaces, AreRacesKnown, HaveSomeEnds, HasRefused, finding_of, first_text, have_stops, journals_of, limits_in, stops_from, until_line}
 use Rattle.program.specs.declared.fault.CommandFault.{CommandFault}
 use Rattle.program.specs.declared.fault.Stop.{Stop}
 use Rattle.program.specs.declared.running.LeftByRun.{LeftByRun}
@@ -142,15 +142,15 @@ pub record HasRun (holding : Option (List ℕ → List ℕ)) (words : List Text)
   pub printed : HasPrintedBy holding file (number_given (codes "seed") (run_rows (drop 1 words))) (options_of (run_rows (drop 1 words))) (first_of (codes "journal") (run_rows (drop 1 words))) old new files files' told
 
 -- What is told before a search: the races that were found in the design of a source, those that part texts which are known before the others, with the numbers of
--- journals of texts that are known from then on. Where there are several, a race is named, or a text is left for which none is, or a bound was met. Where memory was refused
--- to the search for races, it was refused before the search of orders.
+-- journals of texts that are known from then on. Where there are several, a race is named, or a text is left for which none is, or a bound was met. Memory was refused
+-- before the search of orders where it was refused to the search for races, and, where random orders take the place of the former, only there.
 pub record IsToldFirst (source : List ℕ) (design : Compiled) (search_options : SearchOptions) (prefix : Option (List ℕ)) (early : ToldRaces) (first : List ℕ) : Type 0 where
   pub are_races : AreRaces design (limits_in search_options) early.races.bounds early.races.found
   pub are_known : AreKnown design search_options early.races.found early.known.items
   pub are_causes : AreCauses design (limits_in search_options) early.races.bounds early.races.found early.races.causes
   pub answered : 1 < length early.known.items → HasAnswer early.races.found early.races.causes
   pub texts : early.races.texts ≡ length early.known.items
-  pub refused : IsTrue (lacks_memory early.races.found.cut) → IsTrue early.refused
+  pub refused : HasRefused search_options.samples early.races.found.cut early.refused
   pub tells : TellsRaces source design early.known.items prefix early.races.bounds early.races.found early.races.causes.causes.items first
 
 -- What is told behind a search, after these races: races that part texts, behind those that were told before, and the texts for which none was found. Where there are several

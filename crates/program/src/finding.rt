@@ -35,13 +35,13 @@ impl SearchFinding {
         match claim {
             Claim::Every { endless, .. } if count == 1 => SearchFinding::of_only(endless, stops),
             Claim::Every { .. } => SearchFinding::Unfinished,
-            Claim::SoFar(search_stop) => SearchFinding::of_stopped(search_stop).unless(refused),
-            Claim::Sampled(orders) => SearchFinding::of_sampled(orders.stop).unless(refused),
+            Claim::SoFar(search_stop) => SearchFinding::of_stopped(search_stop).or_refused(refused),
+            Claim::Sampled(orders) => SearchFinding::of_sampled(orders.stop).or_refused(refused),
         }
     }
 
     /// What texts are that may not be all: this, unless memory was refused to those who might have found others.
-    fn unless(self, refused: bool) -> SearchFinding
+    fn or_refused(self, refused: bool) -> SearchFinding
         ensures { result ≡ or_refused refused self }
     {
         match refused {

@@ -1,6 +1,6 @@
 //! Texts that are known before a search: those of the first run, of the second runs that show races, and of a few random orders.
 
-ghost use Rattle.std.specs.Prelude.{◌≡◌, ◌↔◌, ◌⊎◌, [], false, length, IfOk, IsTrue, OnOk};
+ghost use Rattle.std.specs.Prelude.{◌≡◌, ◌↔◌, ◌⊎◌, ℕ, [], false, true, if◌then◌else◌, length, IfOk, IsTrue, OnOk, Some};
 ghost use Rattle.std.specs.List.{All, Contains};
 ghost use Rattle.model.specs.declared.end.Limits.{Limits};
 ghost use Rattle.design.specs.Compiled.{Compiled};
@@ -8,7 +8,7 @@ ghost use Rattle.explore.specs.Search.{Differs, IsShown};
 ghost use Rattle.runs.specs.RunRecords.{IsRun};
 ghost use Rattle.arguments.specs.Options.{CanSearch};
 ghost use Rattle.conflicts.specs.declared.bounds.RaceBounds.{RaceBounds};
-ghost use Rattle.program.specs.Findings.{AreFew, AreKnown, AreRaces, HasGrown, IsKnown, IsLawfulShown, IsShownRun, is_memory, lacks_memory, limits_in};
+ghost use Rattle.program.specs.Findings.{AreFew, AreKnown, AreRaces, HasGrown, HasRefused, IsKnown, IsLawfulShown, IsShownRun, is_memory, lacks_memory, limits_in};
 
 use arguments::SearchOptions;
 use conflicts::Bound;
@@ -176,6 +176,31 @@ impl KnownTexts {
         }
         Ok(())
     }
+
+    /// Adds the texts of a few random orders, unless such are tried in place of the search. The answer is whether memory was refused
+    /// to them.
+    fn add_orders<P: Progress>(
+        &mut self,
+        alloc: Global,
+        design: &Design,
+        search_options: SearchOptions,
+        found: &Found,
+        progress: &P,
+    ) -> Result<bool, AllocError>
+        requires few { AreFew self.old }
+        requires can { CanSearch search_options }
+        ensures few { OnOk result (AreFew self.new) }
+        ensures grows { OnOk result (HasGrown self.old self.new) }
+        ensures lawful { OnOk result (All (IsLawfulShown design.now (limits_in search_options)) self.old.shown.items → All (IsLawfulShown design.now (limits_in search_options)) self.new.shown.items) }
+        ensures refused { IfOk result (λ refused. (count : ℕ) → search_options.samples ≡ Some count → refused ≡ false) }
+    {
+        if search_options.samples.is_some() {
+            return Ok(false);
+        }
+        let others = random_orders(alloc, design, search_options, found, progress);
+        self.add_runs(alloc, others.kept.as_slice())?;
+        Ok(matches!(others.stop, Some(SampleStop::Memory)))
+    }
 }
 
 /// The texts that are known of a design before its orders are searched: those of the first run, of the second runs of its races, and
@@ -191,26 +216,25 @@ pub fn known_texts<P: Progress>(
     requires can { CanSearch search_options }
     requires races { (race_bounds : RaceBounds) × AreRaces design.now (limits_in search_options) race_bounds found.now }
     ensures known { IfOk result (λ known. AreKnown design.now search_options found.now known.shown.items) }
-    ensures refused { IfOk result (λ known. IsTrue (lacks_memory found.now.cut) → IsTrue known.refused) }
+    ensures refused { IfOk result (λ known. HasRefused search_options.samples found.now.cut known.refused) }
 {
     let mut known = KnownTexts::new(alloc, search_options.max_texts as usize);
     known.add_run(alloc, &found.original)?;
     known.add_races(alloc, found.races.as_slice())?;
-    let others = random_orders(alloc, design, search_options, found, progress);
-    known.add_runs(alloc, others.kept.as_slice())?;
-    let refused = is_refused(found.cut, others.stop);
+    let orders_refused = known.add_orders(alloc, design, search_options, found, progress)?;
+    let refused = is_refused(found.cut, orders_refused);
     let KnownTexts { shown, most: _ } = known;
     Ok(KnownOrders { shown, refused })
 }
 
-/// Whether memory was refused to the search for races or to random orders.
-fn is_refused(cut: Option<Bound>, stop: Option<SampleStop>) -> bool
-    ensures { IsTrue (lacks_memory cut) → IsTrue result }
+/// Whether memory was refused to the search for races, by what its list was cut, or to random orders.
+fn is_refused(cut: Option<Bound>, orders_refused: bool) -> bool
+    ensures { result ≡ (if orders_refused then true else lacks_memory cut) }
 {
-    if lacks_memory(cut) {
+    if orders_refused {
         return true;
     }
-    matches!(stop, Some(SampleStop::Memory))
+    lacks_memory(cut)
 }
 
 /// Whether memory was refused to a search for races, by what its list was cut.
@@ -233,10 +257,10 @@ fn is_memory(bound: Bound) -> bool
     }
 }
 
-/// How many random orders are tried: none where such are tried in place of the search or the first run has no two entries whose order may
-/// matter, and else as many as the most entries allow where each takes as many as the first run.
-fn few_orders(search_options: SearchOptions, found: &Found) -> u32 {
-    if search_options.samples.is_some() || found.tried == 0 {
+/// How many random orders are tried: none where the first run has no two entries whose order may matter, and else as many as the most
+/// entries allow where each takes as many as the first run.
+fn few_orders(found: &Found) -> u32 {
+    if found.tried == 0 {
         return 0;
     }
     let entries = (found.original.journal.len() as u64).max(1);
@@ -260,7 +284,7 @@ fn random_orders<P: Progress>(
     };
     let seeds = Seeds {
         first: search_options.seed,
-        count: few_orders(search_options, found),
+        count: few_orders(found),
     };
     let bounds = SampleBounds {
         kept: FEW_ORDERS as usize,

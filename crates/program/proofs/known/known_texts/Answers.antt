@@ -6,10 +6,9 @@ use Rattle.model.specs.declared.entry.Entry.{Entry}
 use Rattle.model.specs.declared.end.End.{End}
 use Rattle.explore.specs.declared.Shown.{Shown}
 use Rattle.runs.specs.RunRecords.{IsRun}
-use Rattle.runs.specs.declared.run.RunRecord.{RunRecord}
 use Rattle.races.specs.declared.told.Race.{Race}
 use Rattle.program.specs.Findings.{IsKnown, IsLawfulShown, limits_in}
-use Rattle.program.proofs.Knowing.{all_known, races_run}
+use Rattle.program.proofs.Knowing.{all_known, races_run, refused_by}
 use Rattle.program.proofs.known.known_texts.Goals as goal
 
 pub returns-clause-known : goal.returns-clause-known
@@ -23,8 +22,11 @@ returns-clause-known g c =
     let one = c.in_ok-add_run.ensures.lawful code limits races.original begun in
     let shown = subst (λ (rs : List Race). All (λ (race : Race). IsRun code limits race.exchanged) rs) (sym c.as_slice.ensures.value) (races_run code limits c.requires.races.0 found races) in
     let two = c.in_ok-add_races.ensures.lawful code limits shown one in
-    let runs = subst (λ (rs : List RunRecord). All (IsRun code limits) rs) (sym c.as_slice-2.ensures.value) c.random_orders-others.ensures in
     let told = subst (λ (rs : List Race). All (λ (race : Race). IsKnown c.add_races.new.self.most c.add_races.new.self.shown.items race.exchanged) rs) c.as_slice.ensures.value c.in_ok-add_races.ensures.known in
-    let most = c.in_ok-add_runs.ensures.grows.most ∙ (c.in_ok-add_races.ensures.grows.most ∙ (c.in_ok-add_run.ensures.grows.most ∙ c.new-known.ensures.most)) in
-    all_known code search_options found c.add_run.new.self c.add_races.new.self c.add_runs.new.self most (c.in_ok-add_runs.ensures.lawful code limits runs two) c.in_ok-add_races.ensures.few
-    c.in_ok-add_runs.ensures.few c.in_ok-add_races.ensures.grows c.in_ok-add_runs.ensures.grows c.in_ok-add_run.ensures.known told
+    let most = c.in_ok-orders_refused.ensures.grows.most ∙ (c.in_ok-add_races.ensures.grows.most ∙ (c.in_ok-add_run.ensures.grows.most ∙ c.new-known.ensures.most)) in
+    all_known code search_options found c.add_run.new.self c.add_races.new.self c.add_orders.new.self most (c.in_ok-orders_refused.ensures.lawful two) c.in_ok-add_races.ensures.few
+    c.in_ok-orders_refused.ensures.few c.in_ok-add_races.ensures.grows c.in_ok-orders_refused.ensures.grows c.in_ok-add_run.ensures.known told
+
+pub returns-clause-refused : goal.returns-clause-refused
+returns-clause-refused g c =
+    refused_by c.args.search_options.samples c.args.found.now.cut c.in_ok-orders_refused.orders_refused c.is_refused-refused.result c.is_refused-refused.ensures c.in_ok-orders_refused.ensures.refused
