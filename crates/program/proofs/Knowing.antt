@@ -23,7 +23,7 @@ use Rattle.conflicts.specs.declared.bounds.RaceBounds.{RaceBounds}
 use Rattle.arguments.specs.declared.search_options.SearchOptions.{SearchOptions}
 use Rattle.conflicts.specs.declared.bounds.Bound.{Bound}
 use Rattle.program.specs.declared.known.KnownTexts.{KnownTexts}
-use Rattle.program.specs.Findings.{AreFew, AreKnown, AreRaces, AreRacesKnown, HasGrown, HasRefused, IsKnown, IsLawfulShown, IsShownRun, lacks_memory, limits_in}
+use Rattle.program.specs.Findings.{AreFew, AreKnown, AreRaces, AreRacesKnown, HasGrown, IsMemoryRefused, IsKnown, IsLawfulShown, IsShownRun, lacks_memory, limits_in}
 use Rattle.program.proofs.Few.{no_longer}
 
 -- the text of a run that came to its end is that of a lawful journal
@@ -150,12 +150,14 @@ all_known code search_options found a b c most lawful few_b few more more' first
 
 -- random orders that take the place of the search aren't none
 pub none_before : (samples : Option ℕ) (refused : Bool) → is_some samples ≡ false → (count : ℕ) → samples ≡ Some count → refused ≡ false
-none_before None refused none count is = absurd (clash is)
-none_before (Some one) refused none count is = absurd (clash none)
+none_before None refused none count is = cc
+none_before (Some one) refused none count is = cc
 
 -- by what the list of races says, and by whether it was refused to random orders, where such were tried before the search
-pub refused_by : (samples : Option ℕ) (cut : Option Bound) (orders refused : Bool) → refused ≡ (if orders then true else lacks_memory cut) → ((count : ℕ) → samples ≡ Some count → orders ≡ false) → HasRefused samples cut refused
+pub refused_by : (samples : Option ℕ) (cut : Option Bound) (orders refused : Bool) → refused ≡ (if orders then true else lacks_memory cut) → ((count : ℕ) → samples ≡ Some count → orders ≡ false) → IsMemoryRefused samples cut refused
 refused_by None cut true refused is alone = λ lacks. is
 refused_by None cut false refused is alone = λ lacks. is ∙ lacks
-refused_by (Some count) cut true refused is alone = absurd (clash (alone count refl))
+refused_by (Some count) cut true refused is alone =
+    let none : ◌≡◌ {A = Bool} true false = alone count refl in
+    cc
 refused_by (Some count) cut false refused is alone = is

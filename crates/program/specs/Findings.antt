@@ -93,9 +93,9 @@ lacks_memory (Some bound) = is_memory bound
 
 -- Memory was refused before a search for texts: at least where the list of races was cut for it. Where so many random orders are tried in place of the search, none go
 -- before it, and there is nothing else that it could have been refused to.
-abbrev pub HasRefused : Option ℕ → Option Bound → Bool → Type 0
-HasRefused None cut refused = IsTrue (lacks_memory cut) → IsTrue refused
-HasRefused (Some count) cut refused = refused ≡ lacks_memory cut
+abbrev pub IsMemoryRefused : Option ℕ → Option Bound → Bool → Type 0
+IsMemoryRefused None cut refused = IsTrue (lacks_memory cut) → IsTrue refused
+IsMemoryRefused (Some count) cut refused = refused ≡ lacks_memory cut
 
 -- why a run stops short that was stopped for this: by a turn that is too long, or where the time would pass the last one
 abbrev pub cause_of_stop : Why → Option StopCause

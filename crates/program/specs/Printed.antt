@@ -41,7 +41,7 @@ use Rattle.program.specs.declared.racing.NamedRaces.{NamedRaces}
 use Rattle.program.specs.declared.racing.ToldRaces.{ToldRaces}
 use Rattle.program.specs.declared.finding.SearchFinding.{SearchFinding}
 use Rattle.program.specs.declared.finding.SearchFinding.TheVariants as finding
-use Rattle.program.specs.Findings.{AreFound, AreKnown, AreRaces, AreRacesKnown, HaveSomeEnds, HasRefused, finding_of, first_text, have_stops, journals_of, limits_in, stops_from, until_line}
+use Rattle.program.specs.Findings.{AreFound, AreKnown, AreRaces, AreRacesKnown, HaveSomeEnds, IsMemoryRefused, finding_of, first_text, have_stops, journals_of, limits_in, stops_from, until_line}
 use Rattle.program.specs.declared.fault.CommandFault.{CommandFault}
 use Rattle.program.specs.declared.fault.Stop.{Stop}
 use Rattle.program.specs.declared.running.LeftByRun.{LeftByRun}
@@ -150,7 +150,7 @@ pub record IsToldFirst (source : List ℕ) (design : Compiled) (search_options :
   pub are_causes : AreCauses design (limits_in search_options) early.races.bounds early.races.found early.races.causes
   pub answered : 1 < length early.known.items → HasAnswer early.races.found early.races.causes
   pub texts : early.races.texts ≡ length early.known.items
-  pub refused : HasRefused search_options.samples early.races.found.cut early.refused
+  pub refused : IsMemoryRefused search_options.samples early.races.found.cut early.refused
   pub tells : TellsRaces source design early.known.items prefix early.races.bounds early.races.found early.races.causes.causes.items first
 
 -- What is told behind a search, after these races: races that part texts, behind those that were told before, and the texts for which none was found. Where there are several

@@ -8,7 +8,7 @@ ghost use Rattle.explore.specs.Search.{Differs, IsShown};
 ghost use Rattle.runs.specs.RunRecords.{IsRun};
 ghost use Rattle.arguments.specs.Options.{CanSearch};
 ghost use Rattle.conflicts.specs.declared.bounds.RaceBounds.{RaceBounds};
-ghost use Rattle.program.specs.Findings.{AreFew, AreKnown, AreRaces, HasGrown, HasRefused, IsKnown, IsLawfulShown, IsShownRun, is_memory, lacks_memory, limits_in};
+ghost use Rattle.program.specs.Findings.{AreFew, AreKnown, AreRaces, HasGrown, IsMemoryRefused, IsKnown, IsLawfulShown, IsShownRun, is_memory, lacks_memory, limits_in};
 
 use arguments::SearchOptions;
 use conflicts::Bound;
@@ -216,7 +216,7 @@ pub fn known_texts<P: Progress>(
     requires can { CanSearch search_options }
     requires races { (race_bounds : RaceBounds) × AreRaces design.now (limits_in search_options) race_bounds found.now }
     ensures known { IfOk result (λ known. AreKnown design.now search_options found.now known.shown.items) }
-    ensures refused { IfOk result (λ known. HasRefused search_options.samples found.now.cut known.refused) }
+    ensures refused { IfOk result (λ known. IsMemoryRefused search_options.samples found.now.cut known.refused) }
 {
     let mut known = KnownTexts::new(alloc, search_options.max_texts as usize);
     known.add_run(alloc, &found.original)?;
