@@ -87,11 +87,11 @@ random_orders_text count = decimal count ++ (if count == 1 then codes " random l
 
 -- that so many random orders were tried of so many that were asked for, and why no more were
 abbrev pub fewer_text : ℕ → ℕ → SearchStop → List ℕ
-fewer_text made asked stop = codes " in " ++ decimal made ++ codes " of " ++ random_orders_text asked ++ codes " and the runs for races: " ++ stop_text stop
+fewer_text made asked stop = codes " in " ++ decimal made ++ codes " of " ++ random_orders_text asked ++ codes " and those tried to name races: " ++ stop_text stop
 
 -- that all random orders were tried that were asked for
 abbrev pub asked_text : ℕ → List ℕ
-asked_text made = codes " in " ++ random_orders_text made ++ codes " and the runs for races: others may be possible\n"
+asked_text made = codes " in " ++ random_orders_text made ++ codes " and those tried to name races: others may be possible\n"
 
 -- that random orders were tried, and why no more were, where fewer were than asked for
 abbrev pub sampled_by : ℕ → ℕ → Option SearchStop → List ℕ

@@ -116,7 +116,7 @@ fn push_asked(text: &mut Vec<u8>, made: u32) -> Result<(), AllocError>
 {
     text.extend_from_slice(b" in ")?;
     push_orders(text, made)?;
-    text.extend_from_slice(b" and the runs for races: others may be possible\n")
+    text.extend_from_slice(b" and those tried to name races: others may be possible\n")
 }
 
 /// That so many random orders were tried of so many that were asked for, and why no more were.
@@ -127,7 +127,7 @@ fn push_fewer(text: &mut Vec<u8>, made: u32, asked: u32, stop: SearchStop) -> Re
     push_number(text, made as u64)?;
     text.extend_from_slice(b" of ")?;
     push_orders(text, asked)?;
-    text.extend_from_slice(b" and the runs for races: ")?;
+    text.extend_from_slice(b" and those tried to name races: ")?;
     push_stop(text, stop)
 }
 

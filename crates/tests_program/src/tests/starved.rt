@@ -414,7 +414,7 @@ const RACE: &str = "module t; reg a; initial a = 1'b1; initial $display(\"%b\", 
 /// What is told of the race before the search, and that memory was refused.
 const NAMED: Expected<'static> = Expected {
     status: 6,
-    out: "race 1: register a, time 0\n  process 0, initial at line 1, writes it at line 1\n  process 1, initial at line 1, reads it at line 1\n  the first before the second: line 1 is `1`\n  the second before the first: line 1 is `x`\n",
+    out: "race 1: register a, time 0\n  process 0, initial at line 1, writes it at line 1\n  process 1, initial at line 1, reads it at line 1\n  the first before the second: printed line 1 is `1`\n  the second before the first: printed line 1 is `x`\n",
     err: "vsimtx: memory\n",
 };
 
