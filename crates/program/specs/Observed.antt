@@ -1,5 +1,5 @@
 -- What a search finds of runs, where something else is compared of them than their lines, in order, and what it leaves.
-use Rattle.std.specs.Prelude.{◌≡◌, ◌⊎◌, ℕ, ◌+◌, ◌*◌, ◌≤◌, min, nat_lt, if◌then◌else◌, false, List, [], ◌++◌, length, Option, Some, IfSome, option_map, string_bytes}
+use Rattle.std.specs.Prelude.{◌≡◌, ◌⊎◌, ℕ, ◌+◌, ◌*◌, ◌≤◌, min, nat_lt, if◌then◌else◌, Bool, true, false, List, [], ◌++◌, length, Option, Some, IfSome, option_map, string_bytes}
 use Rattle.std.specs.Io.KnownBytes.{Appends, Keeps}
 use Rattle.std.specs.List.{All, AllPairs}
 use Rattle.model.specs.declared.entry.Entry.{Entry}
@@ -44,6 +44,13 @@ AreRegistersOf design observed.Lines registers = ⊥
 AreRegistersOf design observed.LinesAtTimes registers = registers ≡ []
 AreRegistersOf design observed.Registers registers = registers ≡ registers_from 0 (length design.widths)
 AreRegistersOf design (observed.Named names) registers = NamesRegisters design.names names.now registers
+
+-- all registers of a design are to be observed
+abbrev pub observes_all : Observed → Bool
+observes_all observed.Lines = false
+observes_all observed.LinesAtTimes = false
+observes_all observed.Registers = true
+observes_all (observed.Named names) = false
 
 -- this is the first of the names that are to be observed which no register of a design has
 abbrev pub HasNoRegister : Compiled → Observed → List ℕ → Type 0
@@ -117,10 +124,10 @@ pub record AreFoundWaves (design : Compiled) (search_options : SearchOptions) (r
   pub numbered : endless_number claim ≡ option_map (λ journal. length waves + 1) endless
 
 -- What is said of waves: in what each but the first one parts from that, what they are, and whose runs stop short.
-pub record AreWavesSaid (design : Compiled) (registers : List ℕ) (search_options : SearchOptions) (prefix : Option (List ℕ)) (claim : Claim) (waves : List (Shown Entry End)) (said : List ℕ) : Type 0 where
+pub record AreWavesSaid (design : Compiled) (asked : Observed) (registers : List ℕ) (search_options : SearchOptions) (prefix : Option (List ℕ)) (claim : Claim) (waves : List (Shown Entry End)) (said : List ℕ) : Type 0 where
   pub parts : List ℕ
   pub tells : TellsWaves design.names registers prefix waves [] parts
-  pub said_is : said ≡ parts ++ wave_verdict_text claim search_options.until (length waves) (length registers) (printed_lines (length registers) (first_text waves)) (stops_from 1 waves) prefix
+  pub said_is : said ≡ parts ++ wave_verdict_text claim search_options.until (length waves) (observes_all asked) (length registers) (printed_lines (length registers) (first_text waves)) (stops_from 1 waves) prefix
 
 -- Waves of a design were found of the registers that were to be observed, and output grew by what is said of them.
 pub record HasSaidWaves (design : Compiled) (asked : Observed) (search_options : SearchOptions) (prefix : Option (List ℕ)) (old new : Option (List ℕ)) : Type 0 where
@@ -131,7 +138,7 @@ pub record HasSaidWaves (design : Compiled) (asked : Observed) (search_options :
   pub endless : Option (List Entry)
   pub are_found : AreFoundWaves design search_options registers claim waves endless
   pub said : List ℕ
-  pub are_said : AreWavesSaid design registers search_options prefix claim waves said
+  pub are_said : AreWavesSaid design asked registers search_options prefix claim waves said
   pub printed : Appends old new said
 
 -- So it is, the journals of the waves, and of a run that comes to no end, were saved where a prefix is given, and this is what the search has come to.

@@ -12,7 +12,7 @@ ghost use Rattle.arguments.specs.Options.{CanSearch};
 ghost use Rattle.arguments.specs.declared.observed.Observed.TheVariants.{Lines};
 ghost use Rattle.files.specs.Saved.{KeepsFiles, LeadsElsewhere, journal_path};
 ghost use Rattle.program.specs.Findings.{AreFew};
-ghost use Rattle.program.specs.Observed.{AreFoundWaves, AreRegistersAsked, AreRegistersOf, AreWavesSaid, HasLeftWaves, HasObserved, IsNameTold, IsObservedEnding, HasSavedWaves, most_texts, observer_of_registers, texts_bound, wave_claim_of};
+ghost use Rattle.program.specs.Observed.{AreFoundWaves, AreRegistersAsked, AreRegistersOf, AreWavesSaid, HasLeftWaves, HasObserved, IsNameTold, IsObservedEnding, HasSavedWaves, most_texts, observer_of_registers, observes_all, texts_bound, wave_claim_of};
 ghost use Rattle.program.specs.Printed.{AreUntouched};
 ghost use Rattle.program.specs.Program.{status_of};
 
@@ -139,14 +139,7 @@ fn tell_waves<F: Files, O: Write>(
     try_first(alloc, request.journals, files)?;
     let search_options = request.search_options;
     let waves = find_waves(alloc, design, search_options, registers, &files.progress())?;
-    let said = wave_lines(
-        alloc,
-        design,
-        registers,
-        &waves,
-        search_options,
-        request.journals,
-    )?;
+    let said = wave_lines(alloc, design, registers, &waves, request)?;
     let found = finding_of(&waves, false);
     match tell_texts(alloc, waves, said.as_slice(), request, files, out) {
         Ok(()) => Ok(Ending::Found(found)),
@@ -261,32 +254,42 @@ fn wave_claim_of(
     }
 }
 
-/// What is said of the waves.
-fn wave_lines<'a>(
+/// Whether all registers are to be observed.
+fn observes_all(observed: Observed<'_>) -> bool
+    ensures { result ≡ observes_all observed.entry }
+{
+    match observed {
+        Observed::Registers => true,
+        Observed::Lines | Observed::LinesAtTimes | Observed::Named(_) => false,
+    }
+}
+
+/// What is said of the waves that a request asks for.
+fn wave_lines(
     alloc: Global,
-    design: &'a Design,
-    registers: &'a [RegId],
-    waves: &'a FoundTexts,
-    search_options: SearchOptions,
-    prefix: Option<&'a str>,
+    design: &Design,
+    registers: &[RegId],
+    waves: &FoundTexts,
+    request: &RacesRequest<'_>,
 ) -> Result<Vec<u8>, AllocError>
-    ensures { IfOk result (λ said. AreWavesSaid design.entry.now registers.entry.now search_options (option_map (λ path. path.now) prefix.entry) waves.entry.now.claim waves.entry.now.shown.items said.items) }
+    ensures { IfOk result (λ said. AreWavesSaid design.now request.now.observed registers.now request.now.search_options (option_map (λ path. path.now) request.now.journals) waves.now.claim waves.now.shown.items said.items) }
 {
     let names = WaveNames {
         design,
         registers,
-        prefix,
+        prefix: request.journals,
     };
     let shown = waves.shown.as_slice();
     let stops = stops_of(alloc, shown)?;
     let verdict = WaveVerdict {
         claim: waves.claim,
-        until: search_options.until,
+        until: request.search_options.until,
         count: shown.len(),
+        all: observes_all(request.observed),
         registers: registers.len(),
         lines: printed_lines(registers.len(), first_of(shown)),
         stops: stops.as_slice(),
-        prefix,
+        prefix: request.journals,
     };
     let mut said = Vec::new(alloc);
     push_waves(&mut said, &names, shown)?;
