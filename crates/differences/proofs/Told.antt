@@ -82,6 +82,14 @@ compared_by names code first second one other rows last count parted r left righ
     one.quiet (is_quiet left.effect.state) other.quiet (is_quiet right.effect.state) left.time left.finished left.quiet right.time right.finished right.quiet told.ends_are in
     let stop : earlier_end_text one.time other.time ≡ earlier_end_text left.effect.state.time right.effect.state.time =
     ap (λ (n : ℕ). earlier_end_text n other.time) left.time ∙ ap (earlier_end_text left.effect.state.time) right.time in
+    let end_one : List ℕ = one.ending.items in
+    let end_other : List ℕ = other.ending.items in
+    let state = left.effect.state in
+    let rows_told : List ValueDifference = flat_map (rows_at (design_of code) first second) found.times in
+    let ended : ends_text told.ends one.finished one.quiet one.time end_one end_other ≡ ends_text told.ends state.finished (is_quiet state) state.time end_one end_other =
+    ap (λ (b : Bool). ends_text told.ends b one.quiet one.time end_one end_other) left.finished
+    ∙ (ap (λ (b : Bool). ends_text told.ends state.finished b one.time end_one end_other) left.quiet
+    ∙ ap (λ (n : ℕ). ends_text told.ends state.finished (is_quiet state) n end_one end_other) left.time) in
     let end_is : last ≡ last_compared left.effect.state right.effect.state =
     is_last ∙ (ap (λ (n : ℕ). min n other.time) left.time ∙ ap (min left.effect.state.time) right.time) in
     let parted_is : parted ≡ parting.text = parting.put ∙ ap (λ (l : List ℕ). l ++ parting.text) empty in
@@ -107,8 +115,9 @@ compared_by names code first second one other rows last count parted r left righ
       ends = told.ends;
       ends_are = ends_are;
       text_is = told.put
-          ∙ (ap (λ (p : List ℕ). p ++ told.printed ++ ends_text told.ends one.ending.items other.ending.items ++ values_text names rows ++ earlier_end_text one.time other.time) parted_is
-          ∙ (ap (λ (l : List ValueDifference). parting.text ++ told.printed ++ ends_text told.ends one.ending.items other.ending.items ++ values_text names l ++ earlier_end_text one.time other.time) found.rows_are
-          ∙ ap (λ (s : List ℕ). parting.text ++ told.printed ++ ends_text told.ends one.ending.items other.ending.items ++ values_text names (flat_map (rows_at (design_of code) first second) found.times) ++ s) stop));
+          ∙ (ap (λ (p : List ℕ). p ++ told.printed ++ ends_text told.ends one.finished one.quiet one.time end_one end_other ++ values_text names rows ++ earlier_end_text one.time other.time) parted_is
+          ∙ (ap (λ (e : List ℕ). parting.text ++ told.printed ++ e ++ values_text names rows ++ earlier_end_text one.time other.time) ended
+          ∙ (ap (λ (l : List ValueDifference). parting.text ++ told.printed ++ ends_text told.ends state.finished (is_quiet state) state.time end_one end_other ++ values_text names l ++ earlier_end_text one.time other.time) found.rows_are
+          ∙ ap (λ (s : List ℕ). parting.text ++ told.printed ++ ends_text told.ends state.finished (is_quiet state) state.time end_one end_other ++ values_text names rows_told ++ s) stop)));
       same_is = told.same_is ∙ ap (λ (l : List ValueDifference). told.same_lines && (are_alike told.ends && not (has_any l))) found.rows_are;
     }

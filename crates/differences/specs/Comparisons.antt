@@ -3,7 +3,7 @@ use Rattle.std.specs.Prelude.{◌≡◌, ℕ, ◌&&◌, min, not, Bool, List, �
 use Rattle.model.specs.declared.entry.Entry.{Entry}
 use Rattle.model.specs.Design.{Design}
 use Rattle.model.specs.States.{State}
-use Rattle.model.specs.Runs.{Effect, has_any, run}
+use Rattle.model.specs.Runs.{Effect, has_any, is_quiet, run}
 use Rattle.design.specs.Compiled.{Compiled, design_of}
 use Rattle.locations.specs.SourceLocations.{AreProcesses}
 use Rattle.explain.specs.declared.phrases.SourceNames.{SourceNames}
@@ -36,7 +36,8 @@ pub record PutsTold (names : SourceNames) (one other : RunSummary) (rows : List 
   pub ends : EndsCompared
   pub ends_are : HowEndsCompare one.time one.finished one.quiet other.time other.finished other.quiet ends
   pub put : new
-      ≡ old ++ printed ++ ends_text ends one.ending.items other.ending.items ++ values_text names rows ++ earlier_end_text one.time other.time
+      ≡ old ++ printed ++ ends_text ends one.finished one.quiet one.time one.ending.items other.ending.items ++ values_text names rows
+      ++ earlier_end_text one.time other.time
   pub same_is : same ≡ (same_lines && (are_alike ends && not (has_any rows)))
 
 -- What is told of the two lawful journals, by these names: where they part, in which line they differ first, how they end, and each
@@ -63,7 +64,8 @@ pub record IsCompared (names : SourceNames) (design : Design) (first second : Li
   pub ends : EndsCompared
   pub ends_are : HowRunsEnd one.state other.state ends
   pub text_is : r.text.items
-      ≡ parting ++ printed ++ ends_text ends one_end other_end ++ values_text names (flat_map (rows_at design first second) times)
+      ≡ parting ++ printed ++ ends_text ends one.state.finished (is_quiet one.state) one.state.time one_end other_end
+      ++ values_text names (flat_map (rows_at design first second) times)
       ++ earlier_end_text one.state.time other.state.time
   pub same_is : r.same ≡ (same_lines && (are_alike ends && not (has_any (flat_map (rows_at design first second) times))))
 
