@@ -105,6 +105,7 @@ task_gives task.Diff cmd m p h = record {
   file = required_text cmd m (rules_of task.Diff) 0 (rule (codes "FILE") true None) p h refl refl refl refl refl;
   first = required_text cmd m (rules_of task.Diff) 1 (rule (codes "J1") true None) p h refl refl refl refl refl;
   second = required_text cmd m (rules_of task.Diff) 2 (rule (codes "J2") true None) p h refl refl refl refl refl;
+  all = given cmd m (rules_of task.Diff) 3 (flag_rule (codes "all")) flag_parser p h refl refl refl refl;
 }
 
 -- what that says of the words

@@ -110,7 +110,7 @@ parameters_of task.Explain =
     ∷ parameter.Registers
     ∷ []
 parameters_of task.Waves = parameter.File ∷ parameter.Journal ∷ parameter.Out ∷ []
-parameters_of task.Diff = parameter.File ∷ parameter.FirstJournal ∷ parameter.SecondJournal ∷ []
+parameters_of task.Diff = parameter.File ∷ parameter.FirstJournal ∷ parameter.SecondJournal ∷ parameter.AllTimes ∷ []
 
 -- the rule of a word or an option
 abbrev pub rule_for : Parameter → Rule
@@ -136,6 +136,7 @@ rule_for parameter.JournalTo = rule (codes "journal") false None
 rule_for parameter.JournalsTo = rule (codes "journals") false None
 rule_for parameter.Out = rule (codes "out") true None
 rule_for parameter.All = flag_rule (codes "all")
+rule_for parameter.AllTimes = flag_rule (codes "all")
 
 -- the rules of the command of a task
 abbrev pub rules_of : CommandTask → List Rule
@@ -194,6 +195,7 @@ pub record GivesDiff (f : Found) : Type 0 where
   pub file : is_some (first_value f (codes "FILE")) ≡ true
   pub first : is_some (first_value f (codes "J1")) ≡ true
   pub second : is_some (first_value f (codes "J2")) ≡ true
+  pub all : IsGivenArgument f (codes "all") flag_parser
 
 -- what a parse of the words of a task gives
 abbrev pub Gives : CommandTask → Found → Type 0

@@ -84,6 +84,7 @@ argument_of parameter.JournalTo = choice (codes "journal") None
 argument_of parameter.JournalsTo = choice (codes "journals") None
 argument_of parameter.Out = need (codes "out")
 argument_of parameter.All = flag (codes "all")
+argument_of parameter.AllTimes = flag (codes "all")
 
 -- a command with these words and options more
 abbrev pub with_arguments : App → List Parameter → App
@@ -168,14 +169,16 @@ waves_app =
     (place (codes "JOURNAL")))
     (need (codes "out"))
 
--- `diff` with its words
+-- `diff` with its words and option
 unfoldable pub diff_app : App
 diff_app =
     with_rule
     (with_rule
+    (with_rule
     (with_rule (new_app (codes "diff")) (place (codes "FILE")))
     (place (codes "J1")))
-    (place (codes "J2"))
+    (place (codes "J2")))
+    (flag (codes "all"))
 
 -- the command of a task
 abbrev pub app_by : CommandTask → App
@@ -411,11 +414,12 @@ pub record IsWavesOf (rows : List Row) (waves : WavesRequest) : Type 0 where
   pub journal : first_of (codes "JOURNAL") rows ≡ Some waves.journal.now
   pub out : first_of (codes "out") rows ≡ Some waves.out.now
 
--- this comparison is asked for: of J1 and J2 on FILE
+-- this comparison is asked for: of J1 and J2 on FILE, and of all times of each register that differs where `--all` is given
 pub record IsDiffOf (rows : List Row) (diff : DiffRequest) : Type 0 where
   pub file : first_of (codes "FILE") rows ≡ Some diff.file.now
   pub first : first_of (codes "J1") rows ≡ Some diff.first.now
   pub second : first_of (codes "J2") rows ≡ Some diff.second.now
+  pub all_times : diff.all_times ≡ flag_given (codes "all") rows
 
 -- this is asked for by what clap finds in the words of a task
 abbrev pub IsAskedBy : CommandTask → List Row → Request → Type 0

@@ -157,7 +157,7 @@ pub fn waves_request<'a>(matches: &ArgMatches<'a>) -> WavesRequest<'a>
     }
 }
 
-/// The comparison that the words of `diff` ask for: of which journals, on which source.
+/// The comparison that the words of `diff` ask for: of which journals, on which source, and whether of all times.
 pub fn diff_request<'a>(matches: &ArgMatches<'a>) -> DiffRequest<'a>
     requires { GivesDiff (found_of matches.now) }
     ensures { IsDiffOf (rows_of (found_of matches.now)) result }
@@ -166,6 +166,7 @@ pub fn diff_request<'a>(matches: &ArgMatches<'a>) -> DiffRequest<'a>
         file: given_word(matches, "FILE"),
         first: given_word(matches, "J1"),
         second: given_word(matches, "J2"),
+        all_times: given_flag(matches, "all"),
     }
 }
 

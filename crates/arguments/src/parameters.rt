@@ -46,6 +46,7 @@ pub enum Parameter {
     JournalsTo,
     Out,
     All,
+    AllTimes,
 }
 
 const FROM: &str = "First entry that is told, 1 to 4294967295 [default: 1]";
@@ -65,6 +66,8 @@ const JOURNALS_TO: &str = "Where to write a journal of each text: PREFIX.1.journ
 const OUT: &str = "Where to write the value change dump";
 
 const ALL: &str = "Shows each note at each of its places";
+
+const ALL_TIMES: &str = "Shows each register that differs at each time, and not at its first alone";
 
 /// The word or option as `clap` knows it.
 pub fn argument<'a>(alloc: Global, parameter: Parameter) -> Arg<'a>
@@ -94,6 +97,7 @@ pub fn argument<'a>(alloc: Global, parameter: Parameter) -> Arg<'a>
         Parameter::JournalsTo => option(alloc, "journals", "PREFIX", JOURNALS_TO),
         Parameter::Out => option(alloc, "out", "OUT", OUT).required(true),
         Parameter::All => flag(alloc, "all", ALL),
+        Parameter::AllTimes => flag(alloc, "all", ALL_TIMES),
     }
 }
 

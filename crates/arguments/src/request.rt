@@ -75,12 +75,13 @@ pub struct WavesRequest<'a> {
     pub out: &'a str,
 }
 
-/// `diff FILE J1 J2`.
+/// `diff FILE J1 J2`, of each register that differs at each time or at its first alone.
 #[derive(Drop)]
 pub struct DiffRequest<'a> {
     pub file: &'a str,
     pub first: &'a str,
     pub second: &'a str,
+    pub all_times: bool,
 }
 
 /// Why there is no request: help was asked for, the words are wrong, or memory was refused. A text

@@ -6,7 +6,7 @@ ghost use Rattle.arguments.specs.Arguments.{parameters_of};
 use crate::command_task::CommandTask;
 use crate::parameters::Parameter;
 use crate::parameters::Parameter::{
-    All, File, FirstJournal, From, Journal, JournalTo, JournalsTo, MaxEntries, MaxMemory,
+    All, AllTimes, File, FirstJournal, From, Journal, JournalTo, JournalsTo, MaxEntries, MaxMemory,
     MaxStates, MaxTexts, Observe, Out, Radix, Registers, Samples, SecondJournal, Seed, To, Until,
     Versions, Workers,
 };
@@ -25,6 +25,6 @@ pub fn parameters(task: CommandTask) -> &'static [Parameter]
         CommandTask::Check => &[File, All],
         CommandTask::Explain => &[File, Journal, From, To, Radix, Versions, Registers],
         CommandTask::Waves => &[File, Journal, Out],
-        CommandTask::Diff => &[File, FirstJournal, SecondJournal],
+        CommandTask::Diff => &[File, FirstJournal, SecondJournal, AllTimes],
     }
 }

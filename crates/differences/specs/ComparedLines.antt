@@ -17,7 +17,7 @@ use Rattle.differences.specs.declared.value_difference.ValueGiver.{ValueGiver}
 
 -- what comes behind the entries that two journals have in common, by whether each has more
 abbrev pub title_end : Bool → Bool → List ℕ
-title_end true true = codes "; then the journals part\n"
+title_end true true = codes "; then the journals part (these entries needn't be the race)\n"
 title_end false true = codes "; then the first journal ends\n"
 title_end true false = codes "; then the second journal ends\n"
 title_end false false = codes "; the journals are the same\n"
@@ -118,14 +118,15 @@ abbrev pub row_lines : SourceNames → List ValueDifference → List ℕ
 row_lines names [] = []
 row_lines names (d ∷ ds) = row_text names d ++ row_lines names ds
 
--- what is said before them, by whether there are any
-abbrev pub values_title : Bool → List ℕ
-values_title true = codes "registers differ when time passes\n"
-values_title false = codes "the registers have the same values whenever time passes\n"
+-- what is said before them, by whether there are any, and whether each is told at each time
+abbrev pub values_title : Bool → Bool → List ℕ
+values_title false all = codes "the registers have the same values whenever time passes\n"
+values_title true true = codes "registers differ when time passes\n"
+values_title true false = codes "registers differ when time passes: each at its first time (--all shows each time)\n"
 
 -- what is said of the registers
-abbrev pub values_text : SourceNames → List ValueDifference → List ℕ
-values_text names ds = values_title (has_any ds) ++ row_lines names ds
+abbrev pub values_text : SourceNames → Bool → List ValueDifference → List ℕ
+values_text names all ds = values_title (has_any ds) all ++ row_lines names ds
 
 -- which of two runs ends earlier, and when
 abbrev pub stop_head : ℕ → ℕ → List ℕ

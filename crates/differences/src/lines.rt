@@ -16,7 +16,7 @@ fn title_end(first: bool, second: bool) -> &'static str
     ensures { result.now ≡ title_end first second }
 {
     match (first, second) {
-        (true, true) => "; then the journals part\n",
+        (true, true) => "; then the journals part (these entries needn't be the race)\n",
         (false, true) => "; then the first journal ends\n",
         (true, false) => "; then the second journal ends\n",
         (false, false) => "; the journals are the same\n",
@@ -198,25 +198,29 @@ fn push_rows(
     Ok(())
 }
 
-// Puts what is said before the registers behind a text.
-fn values_title(differ: bool) -> &'static str
-    ensures { result.now ≡ values_title differ }
+// What is said before the registers, by whether any differ, and whether each is told at each time.
+fn values_title(differ: bool, all: bool) -> &'static str
+    ensures { result.now ≡ values_title differ all }
 {
-    match differ {
-        true => "registers differ when time passes\n",
-        false => "the registers have the same values whenever time passes\n",
+    match (differ, all) {
+        (false, _) => "the registers have the same values whenever time passes\n",
+        (true, true) => "registers differ when time passes\n",
+        (true, false) => {
+            "registers differ when time passes: each at its first time (--all shows each time)\n"
+        }
     }
 }
 
-/// Puts what is said of the registers behind a text.
+/// Puts what is said of the registers that differ behind a text, each at each time or not.
 pub(crate) fn push_values(
     text: &mut Vec<u8>,
     names: &SourceNames<'_>,
+    all: bool,
     rows: &[ValueDifference],
 ) -> Result<(), AllocError>
-    ensures { OnOk result (text.new.items ≡ text.old.items ++ values_text names.entry.now rows.now) }
+    ensures { OnOk result (text.new.items ≡ text.old.items ++ values_text names.entry.now all rows.now) }
 {
-    text.extend_from_slice(values_title(has_any(rows)).as_bytes())?;
+    text.extend_from_slice(values_title(has_any(rows), all).as_bytes())?;
     push_rows(text, names, rows)
 }
 

@@ -647,7 +647,7 @@ waves_performed holding words waves known files files' asks h = record {
 }
 
 pub diff_performed : (holding : Option (List ℕ → List ℕ)) (words : List Text) (diff : DiffRequest) (old new : Option (List ℕ)) (files files' : Option (List MadeFile)) (same : Bool) → AsksDiff words diff
-    → HasComparedFiles holding diff.file.now diff.first.now diff.second.now old new same → KeepsFiles files files' → HasCompared holding words old new files files' same
+    → HasComparedFiles holding diff.file.now diff.first.now diff.second.now diff.all_times old new same → KeepsFiles files files' → HasCompared holding words old new files files' same
 diff_performed holding words diff old new files files' same asks h k = record {
   begins = asks.begins;
   file = diff.file.now;
@@ -656,7 +656,7 @@ diff_performed holding words diff old new files files' same asks h k = record {
   is_first = asks.is_diff.first;
   second = diff.second.now;
   is_second = asks.is_diff.second;
-  compared = h;
+  compared = subst (λ (all : Bool). HasComparedFiles holding diff.file.now diff.first.now diff.second.now all old new same) asks.is_diff.all_times h;
   unsaved = k;
 }
 

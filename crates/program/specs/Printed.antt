@@ -56,7 +56,7 @@ use Rattle.program.specs.Observed.{HasBegunWaves, HasObserved}
 use Rattle.wavetexts.specs.Names.{NamesRegisters, NamesUnknown}
 use Rattle.program.specs.Program.{explain_fault, right_text, source_status_of, stop_of, version_text}
 use Rattle.files.specs.Saved.{AddsFile, IsHeld, IsOpened, MadeFile, KeepsFiles, SavesAllWhereAsked, SavesSomeWhereAsked, SavesWhereAsked}
-use Rattle.arguments.specs.CommandWords.{AsksHelp, Begins, check_rows, diff_rows, explain_rows, search_options_of, number_given, options_of, races_rows, replay_rows, run_rows, waves_rows}
+use Rattle.arguments.specs.CommandWords.{AsksHelp, Begins, check_rows, diff_rows, explain_rows, flag_given, search_options_of, number_given, options_of, races_rows, replay_rows, run_rows, waves_rows}
 
 -- the limits of a run
 abbrev pub run_limits_of : RunOptions → Limits
@@ -402,18 +402,18 @@ pub record HasWaves (holding : Option (List ℕ → List ℕ)) (words : List Tex
   pub dumped : HasDumped holding file journal path files files'
   pub unprinted : Keeps old new
 
--- Two journals that were left to read were compared on the design of a source, and this is told of them.
-pub record ComparesJournals (source : List ℕ) (first second : Option (List ℕ)) (told : Comparison) : Type 0 where
+-- Two journals that were left to read were compared on the design of a source, and this is told of them, of all times of each register that differs or not.
+pub record ComparesJournals (source : List ℕ) (all : Bool) (first second : Option (List ℕ)) (told : Comparison) : Type 0 where
   pub design : Compiled
   pub one : List Entry
   pub one_read : AreRead source first design one
   pub other : List Entry
   pub other_read : AreRead source second design other
-  pub is_told : IsComparison source design one other told
+  pub is_told : IsComparison source design all one other told
 
 -- What is in two journals' files, where that is known, was compared on the design that the source in a file describes. Output grew by what
 -- is told of them, and this says whether they are the same.
-pub record HasComparedFiles (holding : Option (List ℕ → List ℕ)) (file first second : List ℕ) (old new : Option (List ℕ)) (same : Bool) : Type 0 where
+pub record HasComparedFiles (holding : Option (List ℕ → List ℕ)) (file first second : List ℕ) (all : Bool) (old new : Option (List ℕ)) (same : Bool) : Type 0 where
   pub source : List ℕ
   pub held : IsHeld holding file source
   pub one : Option (List ℕ)
@@ -421,11 +421,11 @@ pub record HasComparedFiles (holding : Option (List ℕ → List ℕ)) (file fir
   pub other : Option (List ℕ)
   pub other_opened : IsOpened holding second other
   pub told : Comparison
-  pub compares : ComparesJournals source one other told
+  pub compares : ComparesJournals source all one other told
   pub printed : Appends old new told.text.items
   pub same_is : told.same ≡ same
 
--- The words ask for a comparison of their J1 and J2 on their FILE, and so it was made.
+-- The words ask for a comparison of their J1 and J2 on their FILE, and so it was made, of all times where they give `--all`.
 pub record HasCompared (holding : Option (List ℕ → List ℕ)) (words : List Text) (old new : Option (List ℕ)) (files files' : Option (List MadeFile)) (same : Bool) : Type 0 where
   pub begins : Begins words (codes "diff")
   pub file : List ℕ
@@ -434,7 +434,7 @@ pub record HasCompared (holding : Option (List ℕ → List ℕ)) (words : List 
   pub is_first : first_of (codes "J1") (diff_rows (drop 1 words)) ≡ Some first
   pub second : List ℕ
   pub is_second : first_of (codes "J2") (diff_rows (drop 1 words)) ≡ Some second
-  pub compared : HasComparedFiles holding file first second old new same
+  pub compared : HasComparedFiles holding file first second (flag_given (codes "all") (diff_rows (drop 1 words))) old new same
   pub unsaved : KeepsFiles files files'
 
 -- what was found differs: a search found several texts, or two journals aren't the same
