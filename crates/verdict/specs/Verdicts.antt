@@ -66,20 +66,40 @@ abbrev pub limit_text : ℕ → List ℕ → List ℕ → List ℕ
 limit_text most one many = codes "a limit was met (" ++ many_text most one many
 
 -- why a search stopped: the limit that was met, or want of memory
+abbrev pub stop_phrase : SearchStop → List ℕ
+stop_phrase (States most) = limit_text most (codes " state)") (codes " states)")
+stop_phrase (Texts most) = limit_text most (codes " text)") (codes " texts)")
+stop_phrase (Entries most) = limit_text most (codes " entry)") (codes " entries)")
+stop_phrase (Megabytes most) = limit_text most (codes " MB)") (codes " MB)")
+stop_phrase Memory = codes "memory was refused"
+
+-- so it stands at the end of a line
 abbrev pub stop_text : SearchStop → List ℕ
-stop_text (States most) = limit_text most (codes " state)\n") (codes " states)\n")
-stop_text (Texts most) = limit_text most (codes " text)\n") (codes " texts)\n")
-stop_text (Entries most) = limit_text most (codes " entry)\n") (codes " entries)\n")
-stop_text (Megabytes most) = limit_text most (codes " MB)\n") (codes " MB)\n")
-stop_text Memory = codes "memory was refused\n"
+stop_text stop = stop_phrase stop ++ codes "\n"
+
+-- that an option may take a greater number, or, where there are several texts or waves, a race be mended first
+abbrev pub raise_head : ℕ → List ℕ
+raise_head count = if nat_lt 1 count then codes "; mend a race and look again, or raise " else codes "; raise "
+
+-- so it is of this option
+abbrev pub raise_text : ℕ → List ℕ → List ℕ
+raise_text count option = raise_head count ++ option
+
+-- what may be done where a search stopped: of a limit that was met the option may take a greater number
+abbrev pub next_step_text : ℕ → SearchStop → List ℕ
+next_step_text count (States most) = raise_text count (codes "--max-states\n")
+next_step_text count (Texts most) = raise_text count (codes "--max-texts\n")
+next_step_text count (Entries most) = raise_text count (codes "--max-entries\n")
+next_step_text count (Megabytes most) = raise_text count (codes "--max-memory\n")
+next_step_text count Memory = codes "\n"
 
 -- that there may be others: several texts are all that is known, and so is one or none so far
 abbrev pub open_text : ℕ → List ℕ
 open_text count = if nat_lt 1 count then codes " or more: " else codes " so far: "
 
--- so it is, and why
+-- so it is, why, and what may be done
 abbrev pub so_far_text : SearchStop → ℕ → List ℕ
-so_far_text stop count = open_text count ++ stop_text stop
+so_far_text stop count = open_text count ++ stop_phrase stop ++ next_step_text count stop
 
 -- so many random orders, with a word for one
 abbrev pub random_orders_text : ℕ → List ℕ

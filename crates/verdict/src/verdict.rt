@@ -2,11 +2,11 @@
 
 ghost use Rattle.std.specs.Prelude.{◌≡◌, ◌++◌, OnOk, codes, option_map};
 ghost use Rattle.verdict.specs.StopLines.{stops_text};
-ghost use Rattle.verdict.specs.Verdicts.{asked_text, claim_text, endless_text, every_or_none, fewer_text, many_every, none_every, one_of_them, one_every, open_text, random_orders_text, run_prints, run_that_ends, sampled_text, so_far_text, verdict_text};
+ghost use Rattle.verdict.specs.Verdicts.{asked_text, claim_text, endless_text, every_or_none, fewer_text, many_every, next_step_text, none_every, one_of_them, one_every, open_text, raise_head, raise_text, random_orders_text, run_prints, run_that_ends, sampled_text, so_far_text, verdict_text};
 
 use crate::claim::{Claim, SampledOrders, SearchStop};
 use crate::phrases::{
-    push_count, push_number, push_states, push_stop, push_these_lines, push_up_to,
+    push_count, push_number, push_states, push_stop, push_stop_phrase, push_these_lines, push_up_to,
 };
 use crate::race::push_journal;
 use crate::stops::{StopDescription, has_stops, push_stops};
@@ -77,7 +77,7 @@ fn push_samples(
     push_stops(text, b"text ", verdict.prefix, verdict.stops)
 }
 
-/// That there may be other texts, and why.
+/// That there may be other texts, why, and what may be done.
 pub(crate) fn push_so_far(
     text: &mut Vec<u8>,
     stop: SearchStop,
@@ -86,7 +86,40 @@ pub(crate) fn push_so_far(
     ensures { OnOk result (text.new.items ≡ text.old.items ++ so_far_text stop count) }
 {
     text.extend_from_slice(open_text(count))?;
-    push_stop(text, stop)
+    push_stop_phrase(text, stop)?;
+    push_next_step(text, stop, count)
+}
+
+/// What may be done where a search stopped: of a limit that was met the option may take a greater number.
+fn push_next_step(text: &mut Vec<u8>, stop: SearchStop, count: usize) -> Result<(), AllocError>
+    ensures { OnOk result (text.new.items ≡ text.old.items ++ next_step_text count stop) }
+{
+    match stop {
+        SearchStop::States(_) => push_raise(text, count, b"--max-states\n"),
+        SearchStop::Texts(_) => push_raise(text, count, b"--max-texts\n"),
+        SearchStop::Entries(_) => push_raise(text, count, b"--max-entries\n"),
+        SearchStop::Megabytes(_) => push_raise(text, count, b"--max-memory\n"),
+        SearchStop::Memory => text.extend_from_slice(b"\n"),
+    }
+}
+
+/// That an option may take a greater number.
+fn push_raise(text: &mut Vec<u8>, count: usize, option: &[u8]) -> Result<(), AllocError>
+    ensures { OnOk result (text.new.items ≡ text.old.items ++ raise_text count option.now) }
+{
+    text.extend_from_slice(raise_head(count))?;
+    text.extend_from_slice(option)
+}
+
+/// What stands before the option, where there are so many texts or waves: that a race may be mended first, where there are several.
+fn raise_head(count: usize) -> &'static [u8]
+    ensures { result.now ≡ raise_head count }
+{
+    if 1 < count {
+        b"; mend a race and look again, or raise "
+    } else {
+        b"; raise "
+    }
 }
 
 /// What stands before the reason for which there may be other texts: there are more than one already, or not.
