@@ -19,6 +19,7 @@ use Rattle.causes.specs.declared.causes.Causes.{Causes}
 use Rattle.causes.specs.declared.parting_race.PartingRace.{PartingRace}
 use Rattle.naming.specs.Naming.{TellsBehind, TellsMore, TellsMoreBehind, TellsRaces}
 use Rattle.verdict.specs.Verdicts.{verdict_text}
+use Rattle.verdict.specs.declared.endings.RunEndings.{RunEndings}
 use Rattle.verdict.specs.declared.stops.StopDescription.{StopDescription}
 use Rattle.verdict.specs.declared.claim.Claim.{Claim}
 use Rattle.verdict.specs.declared.claim.SampledOrders.{SampledOrders}
@@ -29,7 +30,7 @@ use Rattle.files.specs.Saved.{IsHeld, KeepsFiles, MadeFile, SavesAllWhereAsked, 
 use Rattle.arguments.specs.declared.search_options.SearchOptions.{SearchOptions}
 use Rattle.program.specs.declared.finding.SearchFinding.{SearchFinding}
 use Rattle.program.specs.declared.fault.CommandFault.{CommandFault}
-use Rattle.program.specs.Findings.{AreFound, AreOfSeeds, AreRacesKnown, IsFound, IsLawfulShown, IsClaimWithin, HaveSomeEnds, OnEvery, OnSampled, claim_of, endless_number, finding_of, first_text, have_stops, journals_of, limits_in, search_stop_of, stops_from, unless_stopped, until_line}
+use Rattle.program.specs.Findings.{AreFound, AreOfSeeds, AreRacesKnown, IsFound, IsLawfulShown, IsClaimWithin, HaveSomeEnds, OnEvery, OnSampled, claim_of, endless_number, endings_of, finding_of, first_text, have_stops, journals_of, limits_in, search_stop_of, stops_from, unless_stopped, until_line}
 use Rattle.program.specs.declared.racing.NamedRaces.{NamedRaces}
 use Rattle.program.specs.declared.racing.ToldRaces.{ToldRaces}
 use Rattle.program.specs.Printed.{HasFound, HasLeft, HasShown, IsToldFirst, IsToldLast, IsToldMore}
@@ -202,15 +203,16 @@ told_behind source code search_options prefix races claim shown texts more said 
 }
 
 -- what is said of texts behind a search
-pub told_last : (search_options : SearchOptions) (prefix : Option (List ℕ)) (end : End) (claim : Claim) (texts shown : List (Shown Entry End)) (ends : Bool) (first : List ℕ) (stops : List StopDescription) (empty middle line last : List ℕ) → shown ≡ texts → HaveSomeEnds shown ends
-    → first ≡ first_text shown → stops ≡ stops_from 1 shown → empty ≡ [] → middle ≡ empty ++ verdict_text claim search_options.until (length shown) ends first stops prefix → last ≡ middle ++ line → line ≡ until_line search_options.until claim end
+pub told_last : (search_options : SearchOptions) (prefix : Option (List ℕ)) (end : End) (claim : Claim) (texts shown : List (Shown Entry End)) (ends : Bool) (endings : RunEndings) (first : List ℕ) (stops : List StopDescription) (empty middle line last : List ℕ) → shown ≡ texts → HaveSomeEnds shown ends
+    → endings ≡ endings_of shown → first ≡ first_text shown → stops ≡ stops_from 1 shown → empty ≡ [] → middle ≡ empty ++ verdict_text claim search_options.until (length shown) ends endings first stops prefix → last ≡ middle ++ line → line ≡ until_line search_options.until claim end
     → IsToldLast search_options prefix end claim texts last
-told_last search_options prefix end claim texts shown ends first stops empty middle line last same apart begins short none told is until =
-    let said : middle ≡ verdict_text claim search_options.until (length shown) ends (first_text shown) (stops_from 1 shown) prefix =
+told_last search_options prefix end claim texts shown ends endings first stops empty middle line last same apart ended begins short none told is until =
+    let said : middle ≡ verdict_text claim search_options.until (length shown) ends (endings_of shown) (first_text shown) (stops_from 1 shown) prefix =
     told
-    ∙ (ap (λ (l : List ℕ). l ++ verdict_text claim search_options.until (length shown) ends first stops prefix) none
-    ∙ (ap (λ (f : List ℕ). verdict_text claim search_options.until (length shown) ends f stops prefix) begins
-    ∙ ap (λ (l : List StopDescription). verdict_text claim search_options.until (length shown) ends (first_text shown) l prefix) short)) in
+    ∙ (ap (λ (l : List ℕ). l ++ verdict_text claim search_options.until (length shown) ends endings first stops prefix) none
+    ∙ (ap (λ (e : RunEndings). verdict_text claim search_options.until (length shown) ends e first stops prefix) ended
+    ∙ (ap (λ (f : List ℕ). verdict_text claim search_options.until (length shown) ends (endings_of shown) f stops prefix) begins
+    ∙ ap (λ (l : List StopDescription). verdict_text claim search_options.until (length shown) ends (endings_of shown) (first_text shown) l prefix) short))) in
     subst (λ (ss : List (Shown Entry End)). IsToldLast search_options prefix end claim ss last) same (record {
       ends = ends;
       apart = apart;

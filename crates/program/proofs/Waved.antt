@@ -21,12 +21,13 @@ use Rattle.std.proofs.lemmas.List.Elements.{All-nil, All-cons, All-head, All-tai
 use Rattle.arguments.specs.declared.search_options.SearchOptions.{SearchOptions}
 use Rattle.arguments.specs.declared.observed.Observed.{Observed}
 use Rattle.files.specs.Saved.{IsHeld, KeepsFiles, MadeFile, SavesAllWhereAsked, SavesSomeWhereAsked}
-use Rattle.program.specs.Findings.{OnEvery, endless_number, finding_of, first_text, have_stops, journals_of, limits_in, search_stop_of, stops_from, unless_stopped}
+use Rattle.program.specs.Findings.{OnEvery, endless_number, endings_of, finding_of, first_text, have_stops, journals_of, limits_in, search_stop_of, stops_from, unless_stopped}
 use Rattle.program.specs.Observed.{AreAllWaves, AreFoundWaves, AreRegistersAsked, AreRegistersOf, AreWavesSaid, HasFoundWaves, HasLeftWaves, HasNoRegister, HasObserved, HasArrangedTexts, HasSaidWaves, HasSavedWaves, IsLawfulWave, IsNameTold, IsObservedEnding, IsWaveClaimWithin, observer_of_registers, observes_all, texts_bound, wave_claim_of}
 use Rattle.program.specs.declared.ending.Ending.{Ending}
 use Rattle.program.specs.declared.ending.Ending.TheVariants as ending
 use Rattle.frontend.specs.Sources.{IsDesignOf}
 use Rattle.verdict.specs.WaveLines.{wave_verdict_text}
+use Rattle.verdict.specs.declared.endings.RunEndings.{RunEndings}
 use Rattle.verdict.specs.declared.stops.StopDescription.{StopDescription}
 use Rattle.wavetexts.specs.AtTimes.{printed_lines}
 use Rattle.wavetexts.specs.ToldWaves.{TellsWaves}
@@ -215,15 +216,16 @@ texts_of_waves Q (s ∷ ss) (w ∷ ws) ((text, end, moves), more) all =
 
 -- what is said of waves
 
-pub waves_said : (code : Compiled) (asked : Observed) (registers : List ℕ) (search_options : SearchOptions) (prefix : Option (List ℕ)) (claim : Claim) (waves shown : List (Shown Entry End)) (empty parts said first : List ℕ) (lines : ℕ) (stops : List StopDescription) → shown ≡ waves → empty ≡ [] → TellsWaves code.names registers prefix shown empty parts
-    → said ≡ parts ++ wave_verdict_text claim search_options.until (length shown) (observes_all asked) (length registers) lines stops prefix → first ≡ first_text shown → lines ≡ printed_lines (length registers) first → stops ≡ stops_from 1 shown → AreWavesSaid code asked registers search_options prefix claim waves said
-waves_said code asked registers search_options prefix claim waves shown empty parts said first lines stops same none tells is begins printed short =
+pub waves_said : (code : Compiled) (asked : Observed) (registers : List ℕ) (search_options : SearchOptions) (prefix : Option (List ℕ)) (claim : Claim) (waves shown : List (Shown Entry End)) (empty parts said first : List ℕ) (lines : ℕ) (endings : RunEndings) (stops : List StopDescription) → shown ≡ waves → empty ≡ [] → TellsWaves code.names registers prefix shown empty parts
+    → said ≡ parts ++ wave_verdict_text claim search_options.until (length shown) (observes_all asked) (length registers) lines endings stops prefix → first ≡ first_text shown → lines ≡ printed_lines (length registers) first → endings ≡ endings_of shown → stops ≡ stops_from 1 shown → AreWavesSaid code asked registers search_options prefix claim waves said
+waves_said code asked registers search_options prefix claim waves shown empty parts said first lines endings stops same none tells is begins printed ended short =
     subst (λ (ws : List (Shown Entry End)). AreWavesSaid code asked registers search_options prefix claim ws said) same (record {
       parts = parts;
       tells = subst (λ (l : List ℕ). TellsWaves code.names registers prefix shown l parts) none tells;
       said_is =
-          is ∙ (ap (λ (n : ℕ). parts ++ wave_verdict_text claim search_options.until (length shown) (observes_all asked) (length registers) n stops prefix) (printed ∙ ap (printed_lines (length registers)) begins)
-          ∙ ap (λ (l : List StopDescription). parts ++ wave_verdict_text claim search_options.until (length shown) (observes_all asked) (length registers) (printed_lines (length registers) (first_text shown)) l prefix) short);
+          is ∙ (ap (λ (n : ℕ). parts ++ wave_verdict_text claim search_options.until (length shown) (observes_all asked) (length registers) n endings stops prefix) (printed ∙ ap (printed_lines (length registers)) begins)
+          ∙ (ap (λ (e : RunEndings). parts ++ wave_verdict_text claim search_options.until (length shown) (observes_all asked) (length registers) (printed_lines (length registers) (first_text shown)) e stops prefix) ended
+          ∙ ap (λ (l : List StopDescription). parts ++ wave_verdict_text claim search_options.until (length shown) (observes_all asked) (length registers) (printed_lines (length registers) (first_text shown)) (endings_of shown) l prefix) short));
     })
 
 -- the registers that a list of names means, or the first name that no register has, where they are asked for

@@ -32,7 +32,7 @@ use Rattle.frontend.specs.Sources.{IsDesignOf}
 use Rattle.program.specs.declared.ending.Ending.{Ending}
 use Rattle.program.specs.declared.ending.Ending.TheVariants as ending
 use Rattle.program.specs.declared.finding.SearchFinding.{SearchFinding}
-use Rattle.program.specs.Findings.{OnEvery, claim_of, endless_number, finding_of, first_text, have_stops, journals_of, limits_in, stops_from}
+use Rattle.program.specs.Findings.{OnEvery, claim_of, endings_of, endless_number, finding_of, first_text, have_stops, journals_of, limits_in, stops_from}
 
 -- what is seen of a state where these registers are observed
 abbrev pub observer_of_registers : List ℕ → Observer
@@ -123,11 +123,11 @@ pub record AreFoundWaves (design : Compiled) (search_options : SearchOptions) (r
   pub never : IfSome endless (orders.IsEndlessJournal (design_of design) (limits_in search_options))
   pub numbered : endless_number claim ≡ option_map (λ journal. length waves + 1) endless
 
--- What is said of waves: in what each but the first one parts from that, what they are, and whose runs stop short.
+-- What is said of waves: in what each but the first one parts from that, what they are, how their runs end, and whose stop short.
 pub record AreWavesSaid (design : Compiled) (asked : Observed) (registers : List ℕ) (search_options : SearchOptions) (prefix : Option (List ℕ)) (claim : Claim) (waves : List (Shown Entry End)) (said : List ℕ) : Type 0 where
   pub parts : List ℕ
   pub tells : TellsWaves design.names registers prefix waves [] parts
-  pub said_is : said ≡ parts ++ wave_verdict_text claim search_options.until (length waves) (observes_all asked) (length registers) (printed_lines (length registers) (first_text waves)) (stops_from 1 waves) prefix
+  pub said_is : said ≡ parts ++ wave_verdict_text claim search_options.until (length waves) (observes_all asked) (length registers) (printed_lines (length registers) (first_text waves)) (endings_of waves) (stops_from 1 waves) prefix
 
 -- Waves of a design were found of the registers that were to be observed, and output grew by what is said of them.
 pub record HasSaidWaves (design : Compiled) (asked : Observed) (search_options : SearchOptions) (prefix : Option (List ℕ)) (old new : Option (List ℕ)) : Type 0 where

@@ -41,7 +41,7 @@ use Rattle.program.specs.declared.racing.NamedRaces.{NamedRaces}
 use Rattle.program.specs.declared.racing.ToldRaces.{ToldRaces}
 use Rattle.program.specs.declared.finding.SearchFinding.{SearchFinding}
 use Rattle.program.specs.declared.finding.SearchFinding.TheVariants as finding
-use Rattle.program.specs.Findings.{AreFound, AreKnown, AreRaces, AreRacesKnown, HaveSomeEnds, finding_of, first_text, have_stops, journals_of, lacks_memory, limits_in, stops_from, until_line}
+use Rattle.program.specs.Findings.{AreFound, AreKnown, AreRaces, AreRacesKnown, HaveSomeEnds, endings_of, finding_of, first_text, have_stops, journals_of, lacks_memory, limits_in, stops_from, until_line}
 use Rattle.program.specs.declared.fault.CommandFault.{CommandFault}
 use Rattle.program.specs.declared.fault.Stop.{Stop}
 use Rattle.program.specs.declared.running.LeftByRun.{LeftByRun}
@@ -162,12 +162,12 @@ pub record IsToldMore (source : List ℕ) (design : Compiled) (search_options : 
   pub answered : 1 < length shown → HasAnswer races.found causes
   pub tells : TellsMore source design shown prefix races.bounds races.found (length races.causes.causes.items) causes more
 
--- What is said of texts behind a search whose first run has this end: what they are, whether their ends tell them apart too, and whose runs stop short; and which option ends a run, where
+-- What is said of texts behind a search whose first run has this end: what they are, whether their ends tell them apart too, how their runs end, and whose stop short; and which option ends a run, where
 -- that one didn't end.
 pub record IsToldLast (search_options : SearchOptions) (prefix : Option (List ℕ)) (end : End) (claim : Claim) (shown : List (Shown Entry End)) (last : List ℕ) : Type 0 where
   pub ends : Bool
   pub apart : HaveSomeEnds shown ends
-  pub text_is : last ≡ verdict_text claim search_options.until (length shown) ends (first_text shown) (stops_from 1 shown) prefix ++ until_line search_options.until claim end
+  pub text_is : last ≡ verdict_text claim search_options.until (length shown) ends (endings_of shown) (first_text shown) (stops_from 1 shown) prefix ++ until_line search_options.until claim end
 
 -- What is said of a search, after these races were told and these texts were known: texts were found, with those that were known before all others, those of the runs of these
 -- races are among them, unless as many as may be are, and further races and this are told of them.

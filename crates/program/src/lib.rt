@@ -27,6 +27,7 @@ mod racing;
 mod reading;
 mod register_option;
 mod replaying;
+mod run_ends;
 mod running;
 mod sampling;
 mod searching;

@@ -19,6 +19,7 @@ ghost use Rattle.program.specs.Program.{status_of};
 use crate::ending::Ending;
 use crate::fault::CommandFault;
 use crate::known::KnownTexts;
+use crate::run_ends::endings_of;
 use crate::searching::{
     bounds_of, claim_of, endless_of, finding_of, first_of, number_of, stop_of, tell_texts,
 };
@@ -288,6 +289,7 @@ fn wave_lines(
         all: observes_all(request.observed),
         registers: registers.len(),
         lines: printed_lines(registers.len(), first_of(shown)),
+        endings: endings_of(shown),
         stops: stops.as_slice(),
         prefix: request.journals,
     };

@@ -17,6 +17,7 @@ use crate::fault::CommandFault;
 use crate::finding::SearchFinding;
 use crate::known::KnownTexts;
 use crate::racing::{ToldRaces, more_lines, tell_races};
+use crate::run_ends::endings_of;
 use crate::sampling::sampled;
 use crate::stops::{have_stops, stops_of};
 use crate::texts::FoundTexts;
@@ -414,6 +415,7 @@ fn last_lines<'a>(
         until: search_options.until,
         count: shown.len(),
         ends: ends_differ(shown),
+        endings: endings_of(shown),
         first: first_of(shown),
         stops: stops.as_slice(),
         prefix,

@@ -3,6 +3,8 @@ use Rattle.std.specs.Prelude.{ℕ, ◌+◌, ◌/◌, ◌%◌, ◌==◌, Bool, tr
 use Rattle.model.specs.Journal.{newline}
 use Rattle.verdict.specs.RaceLines.{saved_journal_text}
 use Rattle.verdict.specs.StopLines.{has_stops, stops_text}
+use Rattle.verdict.specs.EndingLines.{endings_text}
+use Rattle.verdict.specs.declared.endings.RunEndings.{RunEndings}
 use Rattle.verdict.specs.declared.stops.StopDescription.{StopDescription}
 use Rattle.verdict.specs.declared.claim.SampledOrders.{SampledOrders}
 use Rattle.verdict.specs.declared.claim.Claim.{Claim}
@@ -146,10 +148,10 @@ run_prints false = codes " that comes to an end prints "
 run_prints true = codes " comes to an end, and every one that stops short prints "
 
 -- that every lawful run with an end prints this text, or that none has an end, and each that stops short prints it
-abbrev pub one_every : ℕ → Option ℕ → List ℕ → List StopDescription → Option ℕ → Option (List ℕ) → List ℕ
-one_every states until only stops endless prefix =
+abbrev pub one_every : ℕ → Option ℕ → RunEndings → List ℕ → List StopDescription → Option ℕ → Option (List ℕ) → List ℕ
+one_every states until endings only stops endless prefix =
     every_or_none (has_stops stops) ++ up_to until ++ run_prints (has_stops stops) ++ these_lines (lines_in only) ++ states_text states
-    ++ stops_text (codes "text ") prefix stops ++ endless_text endless prefix ++ only
+    ++ endings_text endings (has_stops stops) until ++ stops_text (codes "text ") prefix stops ++ endless_text endless prefix ++ only
 
 -- that a run with an end does so, or one that stops short, where some do
 abbrev pub run_that_ends : Bool → List ℕ
@@ -162,22 +164,23 @@ one_of_them true = codes " has one of them\n"
 one_of_them false = codes " prints one of them\n"
 
 -- that every lawful run with an end does so, of texts or of waves, as this word says
-abbrev pub many_every : Option ℕ → Bool → List ℕ → List StopDescription → Option ℕ → Option (List ℕ) → List ℕ
-many_every until ends word stops endless prefix =
-    codes ": every lawful run" ++ up_to until ++ run_that_ends (has_stops stops) ++ one_of_them ends ++ stops_text word prefix stops ++ endless_text endless prefix
+abbrev pub many_every : Option ℕ → Bool → RunEndings → List ℕ → List StopDescription → Option ℕ → Option (List ℕ) → List ℕ
+many_every until ends endings word stops endless prefix =
+    codes ": every lawful run" ++ up_to until ++ run_that_ends (has_stops stops) ++ one_of_them ends ++ endings_text endings (has_stops stops) until
+    ++ stops_text word prefix stops ++ endless_text endless prefix
 
 -- what is said of every lawful run
-abbrev pub every_text : ℕ → Option ℕ → Option ℕ → ℕ → Bool → List ℕ → List StopDescription → Option (List ℕ) → List ℕ
-every_text states endless until count ends first stops prefix =
-    if count == 0 then none_every until endless prefix else if count == 1 then one_every states until first stops endless prefix
-    else many_every until ends (codes "text ") stops endless prefix
+abbrev pub every_text : ℕ → Option ℕ → Option ℕ → ℕ → Bool → RunEndings → List ℕ → List StopDescription → Option (List ℕ) → List ℕ
+every_text states endless until count ends endings first stops prefix =
+    if count == 0 then none_every until endless prefix else if count == 1 then one_every states until endings first stops endless prefix
+    else many_every until ends endings (codes "text ") stops endless prefix
 
 -- what the texts are among those of all lawful runs, and whose runs stop short
-abbrev pub claim_text : Claim → Option ℕ → ℕ → Bool → List ℕ → List StopDescription → Option (List ℕ) → List ℕ
-claim_text (Every states endless) until count ends first stops prefix = every_text states endless until count ends first stops prefix
-claim_text (SoFar stop) until count ends first stops prefix = so_far_text stop count ++ stops_text (codes "text ") prefix stops
-claim_text (Sampled orders) until count ends first stops prefix = sampled_text orders ++ stops_text (codes "text ") prefix stops
+abbrev pub claim_text : Claim → Option ℕ → ℕ → Bool → RunEndings → List ℕ → List StopDescription → Option (List ℕ) → List ℕ
+claim_text (Every states endless) until count ends endings first stops prefix = every_text states endless until count ends endings first stops prefix
+claim_text (SoFar stop) until count ends endings first stops prefix = so_far_text stop count ++ stops_text (codes "text ") prefix stops
+claim_text (Sampled orders) until count ends endings first stops prefix = sampled_text orders ++ stops_text (codes "text ") prefix stops
 
 -- what is said of the texts: how many there are, what they are among those of all lawful runs, and whose runs stop short
-abbrev pub verdict_text : Claim → Option ℕ → ℕ → Bool → List ℕ → List StopDescription → Option (List ℕ) → List ℕ
-verdict_text claim until count ends first stops prefix = text_count_text count ends ++ claim_text claim until count ends first stops prefix
+abbrev pub verdict_text : Claim → Option ℕ → ℕ → Bool → RunEndings → List ℕ → List StopDescription → Option (List ℕ) → List ℕ
+verdict_text claim until count ends endings first stops prefix = text_count_text count ends ++ claim_text claim until count ends endings first stops prefix

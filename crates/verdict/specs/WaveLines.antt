@@ -3,6 +3,8 @@ use Rattle.std.specs.Prelude.{ℕ, ◌==◌, Bool, true, false, if◌then◌else
 use Rattle.verdict.specs.RaceLines.{quoted_line, saved_journal_text}
 use Rattle.verdict.specs.Verdicts.{endless_text, many_every, none_every, number_between, sampled_text, so_far_text, states_text, up_to}
 use Rattle.verdict.specs.StopLines.{has_stops, stops_text}
+use Rattle.verdict.specs.EndingLines.{endings_text}
+use Rattle.verdict.specs.declared.endings.RunEndings.{RunEndings}
 use Rattle.verdict.specs.declared.stops.StopDescription.{StopDescription}
 use Rattle.verdict.specs.declared.claim.Claim.{Claim}
 use Rattle.verdict.specs.declared.claim.Claim.TheVariants.{Every, SoFar, Sampled}
@@ -86,23 +88,24 @@ run_has false = codes " that comes to an end "
 run_has true = codes " comes to an end, and in every one that stops short "
 
 -- that every lawful run with an end has the same wave, or that none has an end, and each that stops short has it
-abbrev pub one_wave : ℕ → Option ℕ → Bool → ℕ → ℕ → List StopDescription → Option ℕ → Option (List ℕ) → List ℕ
-one_wave states until all registers lines stops endless prefix =
+abbrev pub one_wave : ℕ → Option ℕ → Bool → ℕ → ℕ → RunEndings → List StopDescription → Option ℕ → Option (List ℕ) → List ℕ
+one_wave states until all registers lines endings stops endless prefix =
     in_every_or_none (has_stops stops) ++ up_to until ++ run_has (has_stops stops) ++ same_text all registers lines ++ states_text states
-    ++ stops_text (codes "wave ") prefix stops ++ endless_text endless prefix
+    ++ endings_text endings (has_stops stops) until ++ stops_text (codes "wave ") prefix stops ++ endless_text endless prefix
 
 -- what is said of every lawful run
-abbrev pub every_wave_text : ℕ → Option ℕ → Option ℕ → ℕ → Bool → ℕ → ℕ → List StopDescription → Option (List ℕ) → List ℕ
-every_wave_text states endless until count all registers lines stops prefix =
-    if count == 0 then none_every until endless prefix else if count == 1 then one_wave states until all registers lines stops endless prefix
-    else many_every until true (codes "wave ") stops endless prefix
+abbrev pub every_wave_text : ℕ → Option ℕ → Option ℕ → ℕ → Bool → ℕ → ℕ → RunEndings → List StopDescription → Option (List ℕ) → List ℕ
+every_wave_text states endless until count all registers lines endings stops prefix =
+    if count == 0 then none_every until endless prefix else if count == 1 then one_wave states until all registers lines endings stops endless prefix
+    else many_every until true endings (codes "wave ") stops endless prefix
 
 -- what the waves are among those of all lawful runs, and whose runs stop short
-abbrev pub wave_claim_text : Claim → Option ℕ → ℕ → Bool → ℕ → ℕ → List StopDescription → Option (List ℕ) → List ℕ
-wave_claim_text (Every states endless) until count all registers lines stops prefix = every_wave_text states endless until count all registers lines stops prefix
-wave_claim_text (SoFar stop) until count all registers lines stops prefix = so_far_text stop count ++ stops_text (codes "wave ") prefix stops
-wave_claim_text (Sampled orders) until count all registers lines stops prefix = sampled_text orders ++ stops_text (codes "wave ") prefix stops
+abbrev pub wave_claim_text : Claim → Option ℕ → ℕ → Bool → ℕ → ℕ → RunEndings → List StopDescription → Option (List ℕ) → List ℕ
+wave_claim_text (Every states endless) until count all registers lines endings stops prefix =
+    every_wave_text states endless until count all registers lines endings stops prefix
+wave_claim_text (SoFar stop) until count all registers lines endings stops prefix = so_far_text stop count ++ stops_text (codes "wave ") prefix stops
+wave_claim_text (Sampled orders) until count all registers lines endings stops prefix = sampled_text orders ++ stops_text (codes "wave ") prefix stops
 
 -- what is said of the waves: how many there are, what they are among those of all lawful runs, and whose runs stop short
-abbrev pub wave_verdict_text : Claim → Option ℕ → ℕ → Bool → ℕ → ℕ → List StopDescription → Option (List ℕ) → List ℕ
-wave_verdict_text claim until count all registers lines stops prefix = wave_count_text count ++ wave_claim_text claim until count all registers lines stops prefix
+abbrev pub wave_verdict_text : Claim → Option ℕ → ℕ → Bool → ℕ → ℕ → RunEndings → List StopDescription → Option (List ℕ) → List ℕ
+wave_verdict_text claim until count all registers lines endings stops prefix = wave_count_text count ++ wave_claim_text claim until count all registers lines endings stops prefix

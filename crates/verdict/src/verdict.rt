@@ -5,6 +5,7 @@ ghost use Rattle.verdict.specs.StopLines.{stops_text};
 ghost use Rattle.verdict.specs.Verdicts.{asked_text, claim_text, endless_text, every_or_none, fewer_text, many_every, next_step_text, none_every, one_of_them, one_every, open_text, raise_head, raise_text, random_orders_text, run_prints, run_that_ends, sampled_text, so_far_text, verdict_text};
 
 use crate::claim::{Claim, SampledOrders, SearchStop};
+use crate::endings::{RunEndings, push_endings};
 use crate::phrases::{
     push_count, push_number, push_states, push_stop, push_stop_phrase, push_these_lines, push_up_to,
 };
@@ -22,6 +23,8 @@ pub struct Verdict<'a> {
     pub count: usize,
     /// Whether some of them end in different ways.
     pub ends: bool,
+    /// How the runs of the texts end.
+    pub endings: RunEndings,
     /// The first text, if there is one.
     pub first: &'a [u8],
     /// Those of the texts whose runs stop short.
@@ -32,7 +35,7 @@ pub struct Verdict<'a> {
 
 /// Puts the verdict behind a text. Where there is one text and no other is possible, that text is the end of it.
 pub fn push_verdict(text: &mut Vec<u8>, verdict: &Verdict<'_>) -> Result<(), AllocError>
-    ensures { OnOk result (text.new.items ≡ text.old.items ++ verdict_text verdict.entry.now.claim verdict.entry.now.until verdict.entry.now.count verdict.entry.now.ends verdict.entry.now.first.now verdict.entry.now.stops.now (option_map (λ path. path.now) verdict.entry.now.prefix)) }
+    ensures { OnOk result (text.new.items ≡ text.old.items ++ verdict_text verdict.entry.now.claim verdict.entry.now.until verdict.entry.now.count verdict.entry.now.ends verdict.entry.now.endings verdict.entry.now.first.now verdict.entry.now.stops.now (option_map (λ path. path.now) verdict.entry.now.prefix)) }
 {
     push_count(text, verdict.count, verdict.ends)?;
     push_claim(text, verdict)
@@ -40,7 +43,7 @@ pub fn push_verdict(text: &mut Vec<u8>, verdict: &Verdict<'_>) -> Result<(), All
 
 /// What the texts are among those of all lawful runs, behind their number.
 fn push_claim(text: &mut Vec<u8>, verdict: &Verdict<'_>) -> Result<(), AllocError>
-    ensures { OnOk result (text.new.items ≡ text.old.items ++ claim_text verdict.entry.now.claim verdict.entry.now.until verdict.entry.now.count verdict.entry.now.ends verdict.entry.now.first.now verdict.entry.now.stops.now (option_map (λ path. path.now) verdict.entry.now.prefix)) }
+    ensures { OnOk result (text.new.items ≡ text.old.items ++ claim_text verdict.entry.now.claim verdict.entry.now.until verdict.entry.now.count verdict.entry.now.ends verdict.entry.now.endings verdict.entry.now.first.now verdict.entry.now.stops.now (option_map (λ path. path.now) verdict.entry.now.prefix)) }
 {
     match verdict.claim {
         Claim::Every { states, endless } => match verdict.count {
@@ -216,7 +219,7 @@ fn push_one(
     states: u64,
     endless: Option<usize>,
 ) -> Result<(), AllocError>
-    ensures { OnOk result (text.new.items ≡ text.old.items ++ one_every states verdict.entry.now.until verdict.entry.now.first.now verdict.entry.now.stops.now endless (option_map (λ path. path.now) verdict.entry.now.prefix)) }
+    ensures { OnOk result (text.new.items ≡ text.old.items ++ one_every states verdict.entry.now.until verdict.entry.now.endings verdict.entry.now.first.now verdict.entry.now.stops.now endless (option_map (λ path. path.now) verdict.entry.now.prefix)) }
 {
     let some = has_stops(verdict.stops);
     text.extend_from_slice(every_or_none(some))?;
@@ -224,6 +227,7 @@ fn push_one(
     text.extend_from_slice(run_prints(some))?;
     push_these_lines(text, verdict.first)?;
     push_states(text, states)?;
+    push_endings(text, verdict.endings, some, verdict.until)?;
     push_stops(text, b"text ", verdict.prefix, verdict.stops)?;
     push_endless(text, endless, verdict.prefix)?;
     text.extend_from_slice(verdict.first)
@@ -256,13 +260,14 @@ pub(crate) fn push_many(
     word: &[u8],
     endless: Option<usize>,
 ) -> Result<(), AllocError>
-    ensures { OnOk result (text.new.items ≡ text.old.items ++ many_every verdict.entry.now.until verdict.entry.now.ends word.now verdict.entry.now.stops.now endless (option_map (λ path. path.now) verdict.entry.now.prefix)) }
+    ensures { OnOk result (text.new.items ≡ text.old.items ++ many_every verdict.entry.now.until verdict.entry.now.ends verdict.entry.now.endings word.now verdict.entry.now.stops.now endless (option_map (λ path. path.now) verdict.entry.now.prefix)) }
 {
     let some = has_stops(verdict.stops);
     text.extend_from_slice(b": every lawful run")?;
     push_up_to(text, verdict.until)?;
     text.extend_from_slice(run_that_ends(some))?;
     text.extend_from_slice(one_of_them(verdict.ends))?;
+    push_endings(text, verdict.endings, some, verdict.until)?;
     push_stops(text, word, verdict.prefix, verdict.stops)?;
     push_endless(text, endless, verdict.prefix)
 }

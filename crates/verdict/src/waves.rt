@@ -6,6 +6,7 @@ ghost use Rattle.verdict.specs.StopLines.{stops_text};
 ghost use Rattle.verdict.specs.Verdicts.{many_every, sampled_text, so_far_text};
 
 use crate::claim::{Claim, SampledOrders, SearchStop};
+use crate::endings::{RunEndings, push_endings};
 use crate::phrases::{push_between, push_number, push_states, push_up_to};
 use crate::race::{push_journal, push_quoted};
 use crate::stops::{StopDescription, has_stops, push_stops};
@@ -26,6 +27,8 @@ pub struct WaveVerdict<'a> {
     pub registers: usize,
     /// How many lines are printed in a run that has the first wave.
     pub lines: usize,
+    /// How the runs of the waves end.
+    pub endings: RunEndings,
     /// Those of the waves whose runs stop short.
     pub stops: &'a [StopDescription],
     /// The path that journals begin with, where they are saved.
@@ -122,7 +125,7 @@ fn push_side(
 
 /// Puts what is said of waves behind a text.
 pub fn push_wave_verdict(text: &mut Vec<u8>, verdict: &WaveVerdict<'_>) -> Result<(), AllocError>
-    ensures { OnOk result (text.new.items ≡ text.old.items ++ wave_verdict_text verdict.entry.now.claim verdict.entry.now.until verdict.entry.now.count verdict.entry.now.all verdict.entry.now.registers verdict.entry.now.lines verdict.entry.now.stops.now (option_map (λ path. path.now) verdict.entry.now.prefix)) }
+    ensures { OnOk result (text.new.items ≡ text.old.items ++ wave_verdict_text verdict.entry.now.claim verdict.entry.now.until verdict.entry.now.count verdict.entry.now.all verdict.entry.now.registers verdict.entry.now.lines verdict.entry.now.endings verdict.entry.now.stops.now (option_map (λ path. path.now) verdict.entry.now.prefix)) }
 {
     push_wave_count(text, verdict.count)?;
     push_wave_claim(text, verdict)
@@ -149,7 +152,7 @@ fn push_waves(text: &mut Vec<u8>, count: usize) -> Result<(), AllocError>
 
 /// What the waves are among those of all lawful runs, behind their number.
 fn push_wave_claim(text: &mut Vec<u8>, verdict: &WaveVerdict<'_>) -> Result<(), AllocError>
-    ensures { OnOk result (text.new.items ≡ text.old.items ++ wave_claim_text verdict.entry.now.claim verdict.entry.now.until verdict.entry.now.count verdict.entry.now.all verdict.entry.now.registers verdict.entry.now.lines verdict.entry.now.stops.now (option_map (λ path. path.now) verdict.entry.now.prefix)) }
+    ensures { OnOk result (text.new.items ≡ text.old.items ++ wave_claim_text verdict.entry.now.claim verdict.entry.now.until verdict.entry.now.count verdict.entry.now.all verdict.entry.now.registers verdict.entry.now.lines verdict.entry.now.endings verdict.entry.now.stops.now (option_map (λ path. path.now) verdict.entry.now.prefix)) }
 {
     match verdict.claim {
         Claim::Every { states, endless } => match verdict.count {
@@ -192,13 +195,14 @@ fn push_many_waves(
     verdict: &WaveVerdict<'_>,
     endless: Option<usize>,
 ) -> Result<(), AllocError>
-    ensures { OnOk result (text.new.items ≡ text.old.items ++ many_every verdict.entry.now.until true (codes "wave ") verdict.entry.now.stops.now endless (option_map (λ path. path.now) verdict.entry.now.prefix)) }
+    ensures { OnOk result (text.new.items ≡ text.old.items ++ many_every verdict.entry.now.until true verdict.entry.now.endings (codes "wave ") verdict.entry.now.stops.now endless (option_map (λ path. path.now) verdict.entry.now.prefix)) }
 {
     let texts = Verdict {
         claim: verdict.claim,
         until: verdict.until,
         count: verdict.count,
         ends: true,
+        endings: verdict.endings,
         first: &[],
         stops: verdict.stops,
         prefix: verdict.prefix,
@@ -213,7 +217,7 @@ fn push_one_wave(
     states: u64,
     endless: Option<usize>,
 ) -> Result<(), AllocError>
-    ensures { OnOk result (text.new.items ≡ text.old.items ++ one_wave states verdict.entry.now.until verdict.entry.now.all verdict.entry.now.registers verdict.entry.now.lines verdict.entry.now.stops.now endless (option_map (λ path. path.now) verdict.entry.now.prefix)) }
+    ensures { OnOk result (text.new.items ≡ text.old.items ++ one_wave states verdict.entry.now.until verdict.entry.now.all verdict.entry.now.registers verdict.entry.now.lines verdict.entry.now.endings verdict.entry.now.stops.now endless (option_map (λ path. path.now) verdict.entry.now.prefix)) }
 {
     let some = has_stops(verdict.stops);
     text.extend_from_slice(in_every_or_none(some))?;
@@ -221,6 +225,7 @@ fn push_one_wave(
     text.extend_from_slice(run_has(some))?;
     push_same(text, verdict.all, verdict.registers, verdict.lines)?;
     push_states(text, states)?;
+    push_endings(text, verdict.endings, some, verdict.until)?;
     push_stops(text, b"wave ", verdict.prefix, verdict.stops)?;
     push_endless(text, endless, verdict.prefix)
 }
