@@ -105,6 +105,8 @@ parameters_of task.Explain =
     ∷ parameter.Journal
     ∷ parameter.From
     ∷ parameter.To
+    ∷ parameter.FromTime
+    ∷ parameter.ToTime
     ∷ parameter.Radix
     ∷ parameter.Versions
     ∷ parameter.Registers
@@ -129,6 +131,8 @@ rule_for parameter.Seed = rule (codes "seed") false (Some seed_parser)
 rule_for parameter.Observe = rule (codes "observe") false None
 rule_for parameter.From = rule (codes "from") false (Some entries_parser)
 rule_for parameter.To = rule (codes "to") false (Some entries_parser)
+rule_for parameter.FromTime = rule (codes "from-time") false (Some until_parser)
+rule_for parameter.ToTime = rule (codes "to-time") false (Some until_parser)
 rule_for parameter.Radix = rule (codes "radix") false None
 rule_for parameter.Versions = flag_rule (codes "versions")
 rule_for parameter.Registers = rule (codes "registers") false None
@@ -182,6 +186,8 @@ pub record GivesExplain (f : Found) : Type 0 where
   pub journal : is_some (first_value f (codes "JOURNAL")) ≡ true
   pub from : IsGivenArgument f (codes "from") entries_parser
   pub to : IsGivenArgument f (codes "to") entries_parser
+  pub from_time : IsGivenArgument f (codes "from-time") until_parser
+  pub to_time : IsGivenArgument f (codes "to-time") until_parser
   pub versions : IsGivenArgument f (codes "versions") flag_parser
 
 -- what a parse of `waves` gives
