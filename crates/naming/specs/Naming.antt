@@ -186,7 +186,8 @@ pub record TellsAlone (code : Compiled) (shown : List (Shown Entry End)) (old ne
 
 -- What was found behind so many races that part texts, and those of a first run, is told in these lines: the further races that part texts, with numbers behind those,
 -- then one line for each time of those for the order of lines, for which texts none was found, and by what their list was cut. The next line says that the texts differ only
--- in the order of lines at one time, where it stands, and then they do. The last one stands where one text is told, and names registers that differ in two runs which print it.
+-- in the order of lines at one time, where it stands, and then they do. The last one stands where one text is told, and names registers that differ in two runs which print it, and two
+-- processes whose order does that, where they are known.
 pub record TellsMore (source : List ℕ) (code : Compiled) (shown : List (Shown Entry End)) (prefix : Option (List ℕ)) (race_bounds : RaceBounds) (found : Found) (before : ℕ) (causes : Causes) (lines : List ℕ) : Type 0 where
   pub places : SourcePlaces
   pub of_source : ArePlacesOf source places
@@ -196,7 +197,7 @@ pub record TellsMore (source : List ℕ) (code : Compiled) (shown : List (Shown 
   pub are_kept : AreOrdersOf shown (line_orders (drop before causes.causes.items)) kept
   pub alone : Bool
   pub is_alone : IsTrue alone → DifferInOrder code shown
-  pub lines_is : lines ≡ races_text told ++ (orders_text places.processes.now prefix kept ++ (unnamed_lines causes.unnamed.items ++ (list_end_text race_bounds causes.cut ++ (order_alone_text alone ++ unseen_text code (length shown) found.unseen))))
+  pub lines_is : lines ≡ races_text told ++ (orders_text places.processes.now prefix kept ++ (unnamed_lines causes.unnamed.items ++ (list_end_text race_bounds causes.cut ++ (order_alone_text alone ++ unseen_text code places.processes.now (length shown) found.unseen))))
 
 -- a text has grown by such lines
 pub record TellsMoreBehind (source : List ℕ) (code : Compiled) (shown : List (Shown Entry End)) (prefix : Option (List ℕ)) (race_bounds : RaceBounds) (found : Found) (before : ℕ) (causes : Causes) (old new : List ℕ) : Type 0 where

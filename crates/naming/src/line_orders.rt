@@ -143,7 +143,7 @@ fn line_of(processes: &[ProcessLocation], number: u32) -> Option<usize>
 }
 
 /// A process, as it is told.
-fn printer_of(processes: &[ProcessLocation], number: u32) -> PrinterDescription
+pub(crate) fn printer_of(processes: &[ProcessLocation], number: u32) -> PrinterDescription
     ensures { result ≡ printer_of processes.now number }
 {
     PrinterDescription {

@@ -121,7 +121,13 @@ pub fn push_more_races<'a>(
     push_unnamed_texts(text, causes.unnamed.as_slice())?;
     push_end(text, names.race_bounds, causes.cut)?;
     push_alone(alloc, text, names.design, names.shown)?;
-    push_unseen(alloc, text, names.design, names.shown.len(), &found.unseen)
+    push_unseen(
+        text,
+        &places,
+        names.design,
+        names.shown.len(),
+        &found.unseen,
+    )
 }
 
 /// Puts the lines on races for the order of lines, which were kept, behind a text. Fails where memory is refused.

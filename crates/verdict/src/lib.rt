@@ -34,6 +34,6 @@ pub use race::{
     push_line, push_race, push_unnamed,
 };
 pub use stops::{StopCause, StopDescription};
-pub use unseen::push_unseen_line;
+pub use unseen::{push_raced_pair, push_unseen_line};
 pub use verdict::{Verdict, push_verdict};
 pub use waves::{WaveDescription, WaveSite, WaveVerdict, push_wave, push_wave_verdict};

@@ -91,7 +91,10 @@ fn separator(left: usize) -> &'static [u8]
 }
 
 /// Puts a process behind a text, with its line, if that is known.
-fn push_printer(text: &mut Vec<u8>, printer: PrinterDescription) -> Result<(), AllocError>
+pub(crate) fn push_printer(
+    text: &mut Vec<u8>,
+    printer: PrinterDescription,
+) -> Result<(), AllocError>
     ensures { OnOk result (text.new.items ≡ text.old.items ++ printer_text printer) }
 {
     push_number(text, u64::from(printer.number))?;
