@@ -158,9 +158,9 @@ some_saved_on (Some fs) b c (Some p) journals h k = subst (λ (o : Option (List 
 
 -- what a search left behind its races, where the files were the same before it
 more_on : (source : List ℕ) (design : Compiled) (search_options : SearchOptions) (prefix : Option (List ℕ)) (early : ToldRaces) (first : List ℕ) (old new : Option (List ℕ)) (a b c : Option (List MadeFile)) → KeepsFiles a b
-    → (Appends old new first × KeepsFiles b c) ⊎ HasSavedSome source design search_options prefix early first old new b c
-    → (Appends old new first × KeepsFiles a c) ⊎ HasSavedSome source design search_options prefix early first old new a c
-more_on source design search_options prefix early first old new a b c h (inl (p, s)) = inl (p, kept_on a b c h s)
+    → (Appends old new first × SavesSomeWhereAsked b c prefix (journals_of early.known.items None)) ⊎ HasSavedSome source design search_options prefix early first old new b c
+    → (Appends old new first × SavesSomeWhereAsked a c prefix (journals_of early.known.items None)) ⊎ HasSavedSome source design search_options prefix early first old new a c
+more_on source design search_options prefix early first old new a b c h (inl (p, s)) = inl (p, some_saved_on a b c prefix (journals_of early.known.items None) h s)
 more_on source design search_options prefix early first old new a b c h (inr m) = inr (record {
   last = m.last;
   has_found = m.has_found;

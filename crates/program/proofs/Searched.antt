@@ -36,7 +36,7 @@ use Rattle.program.specs.declared.racing.ToldRaces.{ToldRaces}
 use Rattle.program.specs.Printed.{HasFound, HasLeft, HasShown, IsToldFirst, IsToldLast, IsToldMore}
 use Rattle.program.specs.Program.{status_of}
 use Rattle.program.proofs.Knowing.{all_of_each, few_shown, races_still}
-use Rattle.program.proofs.Ended.{all_saved_on, appends_then, kept_on, some_saved_on}
+use Rattle.program.proofs.Ended.{all_saved_on, appends_then, some_saved_on}
 use Rattle.program.proofs.Explained.{appends_kept}
 
 -- what is claimed of a search that stopped for this, or didn't
@@ -258,8 +258,8 @@ search_shown holding file source code search_options prefix early claim shown en
 
 -- a search that was told first, and didn't come further
 pub search_begun : (holding : Option (List ℕ → List ℕ)) (file : List ℕ) (source : List ℕ) (code : Compiled) (search_options : SearchOptions) (prefix : Option (List ℕ)) (early : ToldRaces) (a b : Option (List ℕ)) (files files' : Option (List MadeFile)) → IsHeld holding file source → IsDesignOf source code
-    → ((first : List ℕ) × IsToldFirst source code search_options prefix early first × Appends a b first) → KeepsFiles files files' → HasLeft holding file search_options prefix a b files files'
-search_begun holding file source code search_options prefix early a b files files' held is_design (first, is_first, begins) kept = inr (record {
+    → ((first : List ℕ) × IsToldFirst source code search_options prefix early first × Appends a b first) → SavesSomeWhereAsked files files' prefix (journals_of early.known.items None) → HasLeft holding file search_options prefix a b files files'
+search_begun holding file source code search_options prefix early a b files files' held is_design (first, is_first, begins) saved = inr (record {
   source = source;
   held = held;
   design = code;
@@ -267,14 +267,14 @@ search_begun holding file source code search_options prefix early a b files file
   early = early;
   first = first;
   is_first = is_first;
-  left = inl (begins, kept);
+  left = inl (begins, saved);
 })
 
 -- a search that was told first and last, and whose journals may not all have been saved
 pub search_left : (holding : Option (List ℕ → List ℕ)) (file : List ℕ) (source : List ℕ) (code : Compiled) (search_options : SearchOptions) (prefix : Option (List ℕ)) (early : ToldRaces) (claim : Claim) (shown : List (Shown Entry End)) (endless : Option (List Entry)) (a b c : Option (List ℕ))
     (files tried files' : Option (List MadeFile)) (last : List ℕ) → IsHeld holding file source → IsDesignOf source code → ((first : List ℕ) × IsToldFirst source code search_options prefix early first × Appends a b first)
     → AreFound code search_options claim shown endless → Extends early.known.items shown → IsToldBehind source code search_options prefix early.races claim shown last → KeepsFiles files tried
-    → (Keeps b c × KeepsFiles tried files') ⊎ (Appends b c last × SavesSomeWhereAsked tried files' prefix (journals_of shown endless)) → HasLeft holding file search_options prefix a c files files'
+    → (Keeps b c × SavesSomeWhereAsked tried files' prefix (journals_of early.known.items None)) ⊎ (Appends b c last × SavesSomeWhereAsked tried files' prefix (journals_of shown endless)) → HasLeft holding file search_options prefix a c files files'
 unfolding found_behind
 search_left holding file source code search_options prefix early claim shown endless a b c files tried files' last held is_design (first, is_first, begins) are_found grown is_last kept (inl (same, saved)) = inr (record {
   source = source;
@@ -284,7 +284,7 @@ search_left holding file source code search_options prefix early claim shown end
   early = early;
   first = first;
   is_first = is_first;
-  left = inl (appends_kept a b c first begins same, kept_on files tried files' kept saved);
+  left = inl (appends_kept a b c first begins same, some_saved_on files tried files' prefix (journals_of early.known.items None) kept saved);
 })
 search_left holding file source code search_options prefix early claim shown endless a b c files tried files' last held is_design (first, is_first, begins) are_found grown is_last kept (inr (ends, saved)) = inr (record {
   source = source;

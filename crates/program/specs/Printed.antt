@@ -235,8 +235,8 @@ pub record HasSavedSome (source : List ℕ) (design : Compiled) (search_options 
   pub printed : Appends old new (first ++ last)
   pub saved : SavesSomeWhereAsked files files' prefix (journals_of has_found.shown has_found.endless)
 
--- A search of the design that the source in a file describes didn't come to its end: output grew by the races and by nothing else, and the files are as they
--- were; or it grew by all that is said of it, and the files by journals of what was found.
+-- A search of the design that the source in a file describes didn't come to its end: output grew by the races and by nothing else, and of the journals of the
+-- texts that were known a beginning was saved; or it grew by all that is said of it, and the files by journals of what was found.
 pub record HasBegun (holding : Option (List ℕ → List ℕ)) (file : List ℕ) (search_options : SearchOptions) (prefix : Option (List ℕ)) (old new : Option (List ℕ)) (files files' : Option (List MadeFile)) : Type 0 where
   pub source : List ℕ
   pub held : IsHeld holding file source
@@ -245,7 +245,7 @@ pub record HasBegun (holding : Option (List ℕ → List ℕ)) (file : List ℕ)
   pub early : ToldRaces
   pub first : List ℕ
   pub is_first : IsToldFirst source design search_options prefix early first
-  pub left : (Appends old new first × KeepsFiles files files') ⊎ HasSavedSome source design search_options prefix early first old new files files'
+  pub left : (Appends old new first × SavesSomeWhereAsked files files' prefix (journals_of early.known.items None)) ⊎ HasSavedSome source design search_options prefix early first old new files files'
 
 -- a search left nothing, or came so far
 abbrev pub HasLeft : Option (List ℕ → List ℕ) → List ℕ → SearchOptions → Option (List ℕ) → Option (List ℕ) → Option (List ℕ) → Option (List MadeFile) → Option (List MadeFile) → Type 0

@@ -14,6 +14,7 @@
 
 mod checking;
 mod differing;
+mod early_journals;
 mod ending;
 mod explaining;
 mod fault;

@@ -16,6 +16,7 @@ ghost use Rattle.program.specs.Observed.{AreFoundWaves, AreRegistersAsked, AreRe
 ghost use Rattle.program.specs.Printed.{AreUntouched};
 ghost use Rattle.program.specs.Program.{status_of};
 
+use crate::early_journals::SavedEarly;
 use crate::ending::Ending;
 use crate::fault::CommandFault;
 use crate::known::KnownTexts;
@@ -24,7 +25,7 @@ use crate::searching::{
     bounds_of, claim_of, endless_of, finding_of, first_of, number_of, stop_of, tell_texts,
 };
 use crate::stops::stops_of;
-use crate::texts::FoundTexts;
+use crate::texts::{FoundTexts, ToldTexts};
 use arguments::{Observed, RacesRequest, SearchOptions};
 use design::{Design, RegId};
 use explore::{Explored, Shown, Stopped};
@@ -142,7 +143,11 @@ fn tell_waves<F: Files, O: Write>(
     let waves = find_waves(alloc, design, search_options, registers, &files.progress())?;
     let said = wave_lines(alloc, design, registers, &waves, request)?;
     let found = finding_of(&waves, false);
-    match tell_texts(alloc, waves, said.as_slice(), request, files, out) {
+    let told = ToldTexts {
+        texts: waves,
+        lines: said,
+    };
+    match tell_texts(alloc, told, SavedEarly::none(), request, files, out) {
         Ok(()) => Ok(Ending::Found(found)),
         Err(fault) => Err(fault),
     }

@@ -1,7 +1,8 @@
-//! `races FILE`: the file is read, and races are looked for and told. Then the lawful orders are searched, which may take long, or random
-//! ones tried. Races that part the texts which that found, and what is said of the texts, are told, and then the journals are written.
+//! `races FILE`: the file is read, races are looked for and told, and the journals of the texts that are known by then are written. Then the lawful
+//! orders are searched, which may take long, or random ones tried. Races that part the texts which that found, and what is said of the texts, are told,
+//! and then the other journals are written.
 
-ghost use Rattle.std.specs.Prelude.{◌≡◌, ◌≤◌, ◌⊎◌, ◌∷◌, ◌++◌, IfErr, IfOk, List, None, OnOk, Option, [], ◌+◌, ◌*◌, length, option_map, ℕ};
+ghost use Rattle.std.specs.Prelude.{◌≡◌, ◌≤◌, ◌⊎◌, ◌∷◌, ◌++◌, IfErr, IfOk, IfSome, List, None, OnOk, Option, [], ◌+◌, ◌*◌, length, option_map, ℕ};
 ghost use Rattle.std.specs.Io.KnownBytes.{Appends, Keeps};
 ghost use Rattle.sharing.specs.Parts.{Extends};
 ghost use Rattle.explore.specs.Search.{AreDistinct};
@@ -11,8 +12,11 @@ ghost use Rattle.program.specs.Findings.{AreFound, HaveSomeEnds, IsLawfulShown, 
 ghost use Rattle.arguments.specs.Options.{CanSearch};
 ghost use Rattle.program.specs.Program.{status_of};
 ghost use Rattle.program.specs.Printed.{HasLeft, HasShown, IsToldLast};
-ghost use Rattle.files.specs.Saved.{IsHeld, KeepsFiles, LeadsElsewhere, SavesAllWhereAsked, SavesSomeWhereAsked, journal_path};
+ghost use Rattle.files.specs.FileStatuses.{IsFileStatus, file_status};
+ghost use Rattle.files.specs.Saved.{IsHeld, KeepsFiles, LeadsElsewhere, MadeFile, SavesAllWhereAsked, SavesSomeWhereAsked, journal_path};
+ghost use Rattle.program.specs.EarlyJournals.{AreSavedEarly};
 
+use crate::early_journals::{SavedEarly, save_early};
 use crate::fault::CommandFault;
 use crate::finding::SearchFinding;
 use crate::known::KnownTexts;
@@ -20,7 +24,7 @@ use crate::racing::{ToldRaces, more_lines, tell_races};
 use crate::run_ends::endings_of;
 use crate::sampling::sampled;
 use crate::stops::{have_stops, stops_of};
-use crate::texts::FoundTexts;
+use crate::texts::{FoundTexts, ToldTexts};
 use arguments::{RacesRequest, SearchOptions};
 use design::Design;
 use explore::{Bounds, Explored, Shown, Stopped};
@@ -83,6 +87,8 @@ fn search_design<F: Files, O: Write>(
         races,
         refused,
     } = early;
+    let first = known.as_slice();
+    let saved = save_early(alloc, first, request, files);
     let end = races.found.original.end;
     let texts = find_texts(
         alloc,
@@ -103,7 +109,8 @@ fn search_design<F: Files, O: Write>(
     let said = last_lines(alloc, &texts, search_options, request.journals, end)?;
     let last = joined(more, said.as_slice())?;
     let found = finding_of(&texts, refused);
-    match tell_texts(alloc, texts, last.as_slice(), request, files, out) {
+    let told = ToldTexts { texts, lines: last };
+    match tell_texts(alloc, told, saved, request, files, out) {
         Ok(()) => Ok(found),
         Err(fault) => Err(fault),
     }
@@ -117,22 +124,28 @@ pub(crate) fn finding_of(texts: &FoundTexts, refused: bool) -> SearchFinding
     SearchFinding::of(texts.claim, texts.shown.len(), stops, refused)
 }
 
-/// Tells what is said of texts, and then saves their journals where they are wanted.
+/// Tells what is said of texts, and then saves those of their journals that weren't saved before, where they are wanted; or fails for the reason for which one
+/// of those couldn't be.
 pub(crate) fn tell_texts<F: Files, O: Write>(
     alloc: Global,
-    texts: FoundTexts,
-    last: &[u8],
+    told: ToldTexts,
+    saved: SavedEarly,
     request: &RacesRequest<'_>,
     files: &mut F,
     out: &mut O,
 ) -> Result<(), CommandFault<'static>>
-    ensures told { OnOk result (Appends (O.contents out.old) (O.contents out.new) last.now) }
-    ensures saved { OnOk result (SavesAllWhereAsked (F.made files.old) (F.made files.new) (option_map (λ path. path.now) request.now.journals) (journals_of texts.shown.items (option_map (λ journal. journal.items) texts.endless))) }
+    requires { IfSome saved.fault (λ fault. IsFileStatus (file_status fault)) }
+    ensures told { OnOk result (Appends (O.contents out.old) (O.contents out.new) told.lines.items) }
+    ensures saved { (start : Option (List MadeFile)) → AreSavedEarly start (F.made files.old) (option_map (λ path. path.now) request.now.journals) saved.count (journals_of told.texts.shown.items (option_map (λ journal. journal.items) told.texts.endless)) saved.fault
+        → OnOk result (SavesAllWhereAsked start (F.made files.new) (option_map (λ path. path.now) request.now.journals) (journals_of told.texts.shown.items (option_map (λ journal. journal.items) told.texts.endless))) }
     ensures fault { IfErr result (λ fault. (status_of fault ≡ 1) ⊎ (status_of fault ≡ 6)) }
-    ensures wanting { IfErr result (λ fault. status_of fault ≡ 6 → (Keeps (O.contents out.old) (O.contents out.new) × KeepsFiles (F.made files.old) (F.made files.new))
-        ⊎ (Appends (O.contents out.old) (O.contents out.new) last.now
-        × SavesSomeWhereAsked (F.made files.old) (F.made files.new) (option_map (λ path. path.now) request.now.journals) (journals_of texts.shown.items (option_map (λ journal. journal.items) texts.endless)))) }
+    ensures wanting { (start : Option (List MadeFile)) → AreSavedEarly start (F.made files.old) (option_map (λ path. path.now) request.now.journals) saved.count (journals_of told.texts.shown.items (option_map (λ journal. journal.items) told.texts.endless)) saved.fault
+        → IfErr result (λ fault. status_of fault ≡ 6 → (Keeps (O.contents out.old) (O.contents out.new) × KeepsFiles (F.made files.old) (F.made files.new))
+        ⊎ (Appends (O.contents out.old) (O.contents out.new) told.lines.items
+        × SavesSomeWhereAsked start (F.made files.new) (option_map (λ path. path.now) request.now.journals) (journals_of told.texts.shown.items (option_map (λ journal. journal.items) told.texts.endless)))) }
 {
+    let SavedEarly { count, fault } = saved;
+    let ToldTexts { texts, lines } = told;
     let FoundTexts {
         claim: _,
         shown,
@@ -141,8 +154,12 @@ pub(crate) fn tell_texts<F: Files, O: Write>(
     let journals = with_endless(alloc, shown, endless)?;
     let all = journals.as_slice();
     let (file, prefix) = (request.file, request.journals);
-    show_bytes(out, last)?;
-    save_all(alloc, all, file, prefix, files)?;
+    show_bytes(out, lines.as_slice())?;
+    match fault {
+        Some(fault) => return Err(CommandFault::Files(fault)),
+        None => {}
+    }
+    save_all(alloc, all, count, file, prefix, files)?;
     Ok(())
 }
 

@@ -13,3 +13,10 @@ pub struct FoundTexts {
     pub shown: Vec<Shown<Entry, End>>,
     pub endless: Option<Vec<Entry>>,
 }
+
+/// Texts that were found, and what is said of them last.
+#[derive(Drop)]
+pub struct ToldTexts {
+    pub texts: FoundTexts,
+    pub lines: Vec<u8>,
+}
