@@ -21,7 +21,7 @@ struct TimeChoices {
 
 /// The choices of each time at which there are some.
 #[derive(Drop)]
-pub(crate) struct Choices {
+pub(crate) struct ChoiceCounts {
     times: IndexMap<u64, TimeChoices>,
 }
 
@@ -56,10 +56,10 @@ fn wider(one: Option<TimeChoices>, other: TimeChoices) -> TimeChoices {
     }
 }
 
-impl Choices {
+impl ChoiceCounts {
     /// No choices yet.
     pub(crate) fn new(alloc: Global) -> Self {
-        Choices {
+        ChoiceCounts {
             times: IndexMap::new(alloc),
         }
     }
@@ -107,7 +107,7 @@ impl Choices {
 pub(crate) fn widest_way<M: Copy>(
     alloc: Global,
     lineage: &Lineage<M>,
-    choices: &Choices,
+    choices: &ChoiceCounts,
 ) -> Option<Vec<M>>
     requires lineage { IsLineage lineage.now }
     ensures { IfSome result (λ moves. IsWayAmong (ways lineage.now) moves.items) }

@@ -11,7 +11,7 @@ ghost use Rattle.explore.specs.Lineage.{ways};
 ghost use Rattle.explore.specs.declared.stopped.Stopped.TheVariants as stop;
 
 use crate::again::node_at;
-use crate::choices::{Choices, widest_way};
+use crate::choices::{ChoiceCounts, widest_way};
 use crate::endless::find_endless;
 use crate::kept::{KeptNodes, Pending, first, follow_all};
 use crate::reach::{earliest, earliest_left, earliest_pending};
@@ -88,7 +88,7 @@ fn expand_node<O: Orders>(
     room: &mut O::Room,
     kept: &mut KeptNodes<O::Node, O::Move>,
     shown: &mut Vec<Shown<O::Move, O::End>>,
-    choices: &mut Choices,
+    choices: &mut ChoiceCounts,
     at: Pending<O::Node>,
 ) -> Result<Option<Stopped>, AllocError>
     requires kept { AreKept (O.runs scope.orders.now) (O.has_key scope.orders.now) kept.old }
@@ -145,11 +145,7 @@ fn tell_nodes<P: Progress>(progress: &P, before: usize, now: usize, time: u64) {
 }
 
 /// The least time of nodes that are pending, and of one at this time and others, which were left open.
-fn earliest_open<N: Drop, M: Copy>(
-    kept: &KeptNodes<N, M>,
-    told: Option<u64>,
-    time: u64,
-) -> u64
+fn earliest_open<N: Drop, M: Copy>(kept: &KeptNodes<N, M>, told: Option<u64>, time: u64) -> u64
     ensures told { result ≤ earliest told time }
     ensures pending { All (λ p. result ≤ get_or kept.now.links.times.items p.number 0) kept.now.pending.items }
 {
@@ -187,7 +183,7 @@ fn search_from<O: Orders, P: Progress>(
     ensures widest { IfOk result (λ outcome. IfSome outcome.widest (λ moves. HasNode (O.runs scope.entry.orders.now) moves.items)) }
 {
     *nodes = kept.lineage.len();
-    let mut choices = Choices::new(scope.alloc);
+    let mut choices = ChoiceCounts::new(scope.alloc);
     let mut stopped = None;
     let mut since = None;
     while let Some(reached) = kept.pending.pop() {
@@ -297,12 +293,14 @@ pub fn explore<O: Orders, P: Progress>(
         bounds,
     };
     match search(scope, &mut shown, &mut nodes, progress) {
-        Ok(SearchOutcome {
-            stopped,
-            endless,
-            followed_before,
-            widest,
-        }) => Explored {
+        Ok(
+            SearchOutcome {
+                stopped,
+                endless,
+                followed_before,
+                widest,
+            },
+        ) => Explored {
             shown,
             stopped,
             nodes,

@@ -281,7 +281,10 @@ fn push_end(
 }
 
 /// The processes of a source; none where it isn't cut into tokens.
-fn processes_of(alloc: Global, source: &[u8]) -> Result<Vec<locations::ProcessLocation>, AllocError>
+pub(crate) fn processes_of(
+    alloc: Global,
+    source: &[u8],
+) -> Result<Vec<locations::ProcessLocation>, AllocError>
     ensures { IfOk result (λ found. AreProcessesOf source.now found.items) }
 {
     match processes(alloc, source) {

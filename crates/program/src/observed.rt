@@ -188,6 +188,8 @@ fn find_waves<P: Progress>(
         stopped,
         nodes,
         endless,
+        followed_before,
+        widest,
     } = explored;
     let mut all = KnownTexts {
         shown: Vec::new(alloc),
@@ -203,6 +205,8 @@ fn find_waves<P: Progress>(
         claim,
         shown,
         endless,
+        followed_before,
+        widest,
     })
 }
 

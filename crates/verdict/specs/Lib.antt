@@ -6,3 +6,4 @@ pub mod CutLines
 pub mod WaveLines
 pub mod UnseenLines
 pub mod StopLines
+pub mod ReachLines
