@@ -23,7 +23,7 @@ pub(crate) enum Deed {
 fn deed_to(register: RegId, does: Does) -> Option<Deed> {
     match does {
         Does::Writes => Some(Deed::Writes(register)),
-        Does::Assigns | Does::Updates => Some(Deed::Assigns(register)),
+        Does::Assigns => Some(Deed::Assigns(register)),
         Does::Reads => Some(Deed::Reads(register)),
         Does::Waits => Some(Deed::Waits(register)),
         _ => None,

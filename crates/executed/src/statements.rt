@@ -1,9 +1,9 @@
 //! The statements of a process that ran, by their numbers among those of the process that do the same.
 
 use crate::deed::{Deed, deed_of, times_done};
-use crate::turns::{TurnFinder, TurnSearch, update_at};
+use crate::turns::{TurnFinder, TurnSearch, updates_at};
 use accesses::{Does, Role, Site};
-use design::Design;
+use design::{Design, RegId};
 use model::entry::Entry;
 use std::alloc::{AllocError, Global};
 
@@ -77,26 +77,45 @@ fn times_at(design: &Design, place: usize, deed: Deed) -> usize {
     }
 }
 
-// The event of the update that is looked for, where one is: of a register, at the race's time.
-fn sought_update(search: StatementSearch<'_>, deed: Deed) -> Result<Option<u64>, AllocError> {
-    match (search.role.does, deed) {
-        (Does::Updates, Deed::Assigns(register)) => update_at(search, register),
-        _ => Ok(None),
-    }
-}
-
 // The statements that ran and did what is looked for, if the turns' courses are known.
-fn found(search: StatementSearch<'_>, deed: Deed) -> Result<Option<RunStatements>, AllocError> {
-    let sought = TurnSearch {
-        deed,
-        update: sought_update(search, deed)?,
-    };
+fn found(
+    search: StatementSearch<'_>,
+    sought: TurnSearch,
+) -> Result<Option<RunStatements>, AllocError> {
     let finder = TurnFinder::start(search, sought)?;
     let mut finder = Box::new(search.alloc, finder)?;
     if !finder.go()? {
         return Ok(None);
     }
-    numbered(search, deed, &finder)
+    numbered(search, sought.deed, &finder)
+}
+
+// Whether a statement ran, for all that is known.
+fn has_some(run: &Option<RunStatements>) -> bool {
+    match run {
+        Some(run) => !run.numbers.is_empty(),
+        None => false,
+    }
+}
+
+// The nonblocking assignments of a process that made updates of a register, which are taken at the race's time: those of the first update
+// that it made.
+fn updating(
+    search: StatementSearch<'_>,
+    register: RegId,
+) -> Result<Option<RunStatements>, AllocError> {
+    let updates = updates_at(search, register)?;
+    for place in 0..updates.len() {
+        let sought = TurnSearch {
+            deed: Deed::Assigns(register),
+            update: Some(updates[place]),
+        };
+        let run = found(search, sought)?;
+        if has_some(&run) {
+            return Ok(run);
+        }
+    }
+    Ok(None)
 }
 
 /// The statements by which a process did at a site what its role says, in its turns at a time of a journal. None where that isn't known: a
@@ -106,8 +125,12 @@ pub fn statements_run(search: StatementSearch<'_>) -> Result<Option<RunStatement
     if search.journal.len() > MOST_ENTRIES {
         return Ok(None);
     }
+    match (search.site, search.role.does) {
+        (Site::Register(register), Does::Updates) => return updating(search, register),
+        _ => {}
+    }
     match deed_of(search.site, search.role.does) {
-        Some(deed) => found(search, deed),
+        Some(deed) => found(search, TurnSearch { deed, update: None }),
         None => Ok(None),
     }
 }

@@ -68,27 +68,31 @@ fn update_of(machine: &Machine<'_>, entry: Entry, register: RegId) -> Option<u64
     }
 }
 
-/// The event of the first update of a register at a race's time in its journal, if there is one. Fails where memory is refused.
-pub(crate) fn update_at(
+// The most updates of a register at one time that are looked at.
+const MOST_UPDATES: usize = 8;
+
+/// The events of the first updates of a register at a race's time in its journal. Fails where memory is refused.
+pub(crate) fn updates_at(
     search: StatementSearch<'_>,
     register: RegId,
-) -> Result<Option<u64>, AllocError> {
+) -> Result<Vec<u64>, AllocError> {
     let mut machine = Machine::start(search.alloc, search.design)?;
+    let mut updates = Vec::new(search.alloc);
     for entry in search.journal {
-        if machine.time() > search.time {
-            return Ok(None);
+        if machine.time() > search.time || updates.len() >= MOST_UPDATES {
+            return Ok(updates);
         }
         if machine.time() == search.time {
-            let update = update_of(&machine, *entry, register);
-            if update.is_some() {
-                return Ok(update);
+            match update_of(&machine, *entry, register) {
+                Some(update) => updates.push(update)?,
+                None => {}
             }
         }
         if machine.take(*entry).is_err() {
-            return Ok(None);
+            return Ok(updates);
         }
     }
-    Ok(None)
+    Ok(updates)
 }
 
 /// A machine that is led along a journal to the turns of a process that may have done what is looked for, and the marks of the nodes that did.
@@ -161,7 +165,12 @@ impl<'a> TurnFinder<'a> {
     // Takes a turn of the process, and marks the nodes by which it did what is looked for, if it did. The answer is whether that is known.
     // Fails where memory is refused.
     fn take_candidate(&mut self, number: u64, state: ProcState) -> Result<bool, AllocError> {
-        let before = self.machine.copy(self.search.alloc)?;
+        if self.machine.evaluate(&mut self.log, number, 0).is_err() {
+            return Ok(false);
+        }
+        let mut values = Vec::new(self.search.alloc);
+        values.extend_from_slice(self.machine.store().values())?;
+        let time = self.machine.time();
         let had = self.has_sought();
         if self.machine.take(Entry::Turn(number)).is_err() {
             return Ok(false);
@@ -169,14 +178,11 @@ impl<'a> TurnFinder<'a> {
         if self.sought.update.is_some() && (had || !self.has_sought()) {
             return Ok(true);
         }
-        if before.evaluate(&mut self.log, number, 0).is_err() {
-            return Ok(false);
-        }
         let turn = SoughtTurn {
             state,
             log: &self.log,
-            time: before.time(),
-            values: before.store().values(),
+            time,
+            values: values.as_slice(),
             nba: self.nba_number(self.log.nbas().len()),
         };
         self.marks.mark_turn(
