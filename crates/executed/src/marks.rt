@@ -6,7 +6,7 @@ use design::code::Node;
 use design::{Design, ProcState, RegId};
 use logic4::bits::Bits;
 use std::alloc::{AllocError, Global};
-use turn::TurnLog;
+use turn::{Suspend, TurnLog};
 
 // The most nodes of a turn.
 const MOST_STEPS: u32 = 65_536;
@@ -48,6 +48,28 @@ fn leaves_over(node: &Node, register: RegId, place: usize) -> bool {
     }
 }
 
+// Whether a node waits at the event control with a number.
+fn waits_at(node: &Node, number: usize) -> bool {
+    match node {
+        Node::Await { control, .. } => *control == number,
+        _ => false,
+    }
+}
+
+// Whether nothing that is looked for can stand behind where a turn was gone along to.
+fn is_over(log: &TurnLog, done: Done, deed: Deed) -> bool {
+    match deed {
+        Deed::Writes(_) => done.writes >= log.writes().len(),
+        Deed::Assigns(_) => done.nbas >= log.nbas().len(),
+        Deed::Schedules => done.nbas >= log.nbas().len(),
+        Deed::Strobes => done.strobes >= log.strobes().len(),
+        Deed::Reads(_) => false,
+        Deed::Waits(_) => false,
+        Deed::Prints => false,
+        Deed::Finishes => false,
+    }
+}
+
 impl StatementMarks {
     /// No node has a mark. Fails where memory is refused.
     pub(crate) fn new(alloc: Global, design: &Design) -> Result<StatementMarks, AllocError> {
@@ -68,7 +90,7 @@ impl StatementMarks {
         }
     }
 
-    // StatementMarks the nodes by which an earlier turn left a write of this register over for a process that goes on at a place.
+    // Marks the nodes by which an earlier turn left a write of this register over for a process that goes on at a place.
     fn mark_left_over(&mut self, design: &Design, register: RegId, place: usize) {
         for at in 0..design.nodes().len() {
             if leaves_over(&design.nodes()[at], register, place) {
@@ -77,7 +99,7 @@ impl StatementMarks {
         }
     }
 
-    // StatementMarks what an earlier turn left over, where it is a write that is looked for.
+    // Marks what an earlier turn left over, where it is a write that is looked for.
     fn mark_pending(&mut self, design: &Design, state: ProcState, deed: Deed) {
         match (state.pending, deed) {
             (Some((left, _)), Deed::Writes(register)) => {
@@ -89,7 +111,7 @@ impl StatementMarks {
         }
     }
 
-    // StatementMarks a node that does what is looked for where the turn stands. The answer is whether no other one is looked for behind it.
+    // Marks a node that does what is looked for where the turn stands. The answer is whether no other one is looked for behind it.
     fn mark_node(
         &mut self,
         design: &Design,
@@ -126,19 +148,35 @@ impl StatementMarks {
         }
     }
 
-    /// StatementMarks the nodes of a turn that did what is looked for. The answer is whether its course is known as far as need be. Fails where
-    /// memory is refused.
-    pub(crate) fn mark_turn(
+    // Marks the node at whose event control a turn's process waits behind it.
+    fn mark_wait(&mut self, design: &Design, suspend: Suspend) {
+        match suspend {
+            Suspend::Event(control) => {
+                for at in 0..design.nodes().len() {
+                    if waits_at(&design.nodes()[at], control) {
+                        self.mark(at);
+                    }
+                }
+            }
+            _ => {}
+        }
+    }
+
+    // Goes along a turn, and marks its nodes that did what is looked for. The answer is whether its course is known as far as need be. Fails
+    // where memory is refused.
+    fn mark_course(
         &mut self,
         alloc: Global,
         design: &Design,
         sought: SoughtTurn<'_>,
         deed: Deed,
     ) -> Result<bool, AllocError> {
-        self.mark_pending(design, sought.state, deed);
         let mut course = Course::of(alloc, design, sought.log, sought.time, sought.values)?;
         let mut done = course.begun(sought.state);
         for _ in 0..MOST_STEPS {
+            if is_over(sought.log, done, deed) {
+                return Ok(true);
+            }
             let node = match design.nodes().get(done.place) {
                 Some(node) => *node,
                 None => return Ok(true),
@@ -153,5 +191,25 @@ impl StatementMarks {
             }
         }
         Ok(false)
+    }
+
+    /// Marks the nodes of a turn that did what is looked for. The answer is whether its course is known as far as need be. Fails where
+    /// memory is refused.
+    pub(crate) fn mark_turn(
+        &mut self,
+        alloc: Global,
+        design: &Design,
+        sought: SoughtTurn<'_>,
+        deed: Deed,
+    ) -> Result<bool, AllocError> {
+        match deed {
+            Deed::Waits(_) => {
+                self.mark_wait(design, sought.log.suspend());
+                return Ok(true);
+            }
+            _ => {}
+        }
+        self.mark_pending(design, sought.state, deed);
+        self.mark_course(alloc, design, sought, deed)
     }
 }
