@@ -350,7 +350,7 @@ fn is_limit(search_stop: SearchStop) -> bool
 }
 
 /// Whether it is claimed that a search met a limit.
-fn met_limit(claim: Claim) -> bool
+pub(crate) fn met_limit(claim: Claim) -> bool
     ensures { result ≡ met_limit claim }
 {
     match claim {
