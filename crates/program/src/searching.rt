@@ -424,7 +424,7 @@ fn reach_lines(
     names: &RaceNames<'_>,
     texts: &FoundTexts,
 ) -> Result<Vec<u8>, AllocError>
-    ensures { IfOk result (λ lines. IsReachTold names.now.source.now texts.now.claim lines.items) }
+    ensures { IfOk result (λ lines. IsReachTold names.entry.now.source.now texts.now.claim lines.items) }
 {
     if !met_limit(texts.claim) {
         return Ok(Vec::new(alloc));
@@ -446,7 +446,7 @@ fn said_lines(
     search_options: SearchOptions,
     end: End,
 ) -> Result<Vec<u8>, AllocError>
-    ensures { IfOk result (λ said. IsSaidLast names.now.source.now search_options (option_map (λ path. path.now) names.now.prefix) end texts.now.claim texts.now.shown.items said.items) }
+    ensures { IfOk result (λ said. IsSaidLast names.entry.now.source.now search_options (option_map (λ path. path.now) names.entry.now.prefix) end texts.now.claim texts.now.shown.items said.items) }
 {
     let reach = reach_lines(alloc, names, texts)?;
     let last = last_lines(alloc, texts, search_options, names.prefix, end)?;
