@@ -14,6 +14,7 @@ use accesses::are_same;
 use causes::{Causes, PartingRace, numbered_count};
 use conflicts::{Bound, RaceBounds};
 use design::Design;
+use executed::{RunStatements, StatementSearch, statements_run};
 use explore::Shown;
 use locations::processes;
 use model::end::End;
@@ -246,8 +247,10 @@ fn push_numbered<'a>(
     ensures { OnOk result (TellsNumbered places.now names.entry.now.design.now names.entry.now.shown.now (option_map (λ path. path.now) names.entry.now.prefix) original.entry.now number race.entry.now text.old.items text.new.items) }
 {
     let site = site_of(names.design, race.site);
-    let first = role_words(places, site, race.first)?;
-    let second = role_words(places, site, race.second)?;
+    let first_run = run_of(places.alloc, names.design, original, race, race.first)?;
+    let second_run = run_of(places.alloc, names.design, original, race, race.second)?;
+    let first = role_words(places, site, race.first, &first_run)?;
+    let second = role_words(places, site, race.second, &second_run)?;
     let words = RaceWords {
         site,
         first: first.as_str(),
@@ -256,6 +259,49 @@ fn push_numbered<'a>(
     let description = told_race(names, places, original, race, number, words);
     push_race(text, &description)?;
     Ok(())
+}
+
+/// The statements by which a process does in a race what its role says, if they are known: in the first of its runs, or else in the second.
+/// Fails where memory is refused.
+fn run_of(
+    alloc: Global,
+    design: &Design,
+    original: &RunRecord,
+    race: &Race,
+    role: accesses::Role,
+) -> Result<Option<RunStatements>, AllocError> {
+    let run = run_in(alloc, design, original, race, role)?;
+    if has_run(&run) {
+        return Ok(run);
+    }
+    run_in(alloc, design, &race.exchanged, race, role)
+}
+
+/// The statements by which a process does in a run what its role in a race says, if they are known. Fails where memory is refused.
+fn run_in(
+    alloc: Global,
+    design: &Design,
+    run: &RunRecord,
+    race: &Race,
+    role: accesses::Role,
+) -> Result<Option<RunStatements>, AllocError> {
+    let search = StatementSearch {
+        alloc,
+        design,
+        journal: run.journal.as_slice(),
+        time: race.time,
+        site: race.site,
+        role,
+    };
+    statements_run(search)
+}
+
+/// Whether a statement ran, for all that is known.
+fn has_run(run: &Option<RunStatements>) -> bool {
+    match run {
+        Some(run) => !run.numbers.is_empty(),
+        None => false,
+    }
 }
 
 /// Says that texts differ only in the order of lines at one time, where they do. Fails where memory is refused.
@@ -287,7 +333,10 @@ fn push_end(
 }
 
 /// The processes of a source; none where it isn't cut into tokens.
-fn processes_of(alloc: Global, source: &[u8]) -> Result<Vec<locations::ProcessLocation>, AllocError>
+pub(crate) fn processes_of(
+    alloc: Global,
+    source: &[u8],
+) -> Result<Vec<locations::ProcessLocation>, AllocError>
     ensures { IfOk result (λ found. AreProcessesOf source.now found.items) }
 {
     match processes(alloc, source) {

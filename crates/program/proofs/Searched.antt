@@ -33,7 +33,7 @@ use Rattle.program.specs.declared.fault.CommandFault.{CommandFault}
 use Rattle.program.specs.Findings.{AreFound, AreOfSeeds, AreRacesKnown, IsFound, IsLawfulShown, IsClaimWithin, HaveSomeEnds, OnEvery, OnSampled, claim_of, endless_number, endings_of, finding_of, first_text, have_stops, journals_of, limits_in, search_stop_of, stops_from, unless_stopped, until_line}
 use Rattle.program.specs.declared.racing.NamedRaces.{NamedRaces}
 use Rattle.program.specs.declared.racing.ToldRaces.{ToldRaces}
-use Rattle.program.specs.Printed.{HasFound, HasLeft, HasShown, IsToldFirst, IsToldLast, IsToldMore}
+use Rattle.program.specs.Printed.{HasFound, HasLeft, HasShown, IsSaidLast, IsToldFirst, IsToldLast, IsToldMore}
 use Rattle.program.specs.Program.{status_of}
 use Rattle.program.proofs.Knowing.{all_of_each, few_shown, races_still}
 use Rattle.program.proofs.Ended.{all_saved_on, appends_then, some_saved_on}
@@ -180,7 +180,7 @@ pub record IsToldBehind (source : List ℕ) (code : Compiled) (search_options : 
   pub more : List ℕ
   pub is_more : IsToldMore source code search_options prefix races shown more
   pub said : List ℕ
-  pub is_said : IsToldLast search_options prefix races.found.original.end claim shown said
+  pub is_said : IsSaidLast source search_options prefix races.found.original.end claim shown said
   pub last_is : last ≡ more ++ said
 
 -- what was told before a search of the races that part texts
@@ -193,7 +193,7 @@ pub early_answered : (source : List ℕ) (code : Compiled) (search_options : Sea
 early_answered source code search_options prefix early a b (first, is_first, begins) many = is_first.answered (subst (λ (n : ℕ). 1 < n) is_first.texts many)
 
 pub told_behind : (source : List ℕ) (code : Compiled) (search_options : SearchOptions) (prefix : Option (List ℕ)) (races : NamedRaces) (claim : Claim) (shown texts : List (Shown Entry End)) (more said lines last : List ℕ) → texts ≡ shown
-    → IsToldMore source code search_options prefix races texts more → IsToldLast search_options prefix races.found.original.end claim shown said → lines ≡ said → last ≡ more ++ lines → IsToldBehind source code search_options prefix races claim shown last
+    → IsToldMore source code search_options prefix races texts more → IsSaidLast source search_options prefix races.found.original.end claim shown said → lines ≡ said → last ≡ more ++ lines → IsToldBehind source code search_options prefix races claim shown last
 told_behind source code search_options prefix races claim shown texts more said lines last same told is_said are is = record {
   more = more;
   is_more = subst (λ (ss : List (Shown Entry End)). IsToldMore source code search_options prefix races ss more) same told;

@@ -1,5 +1,5 @@
 -- What a search for waves has found, with what is claimed of it.
-use Rattle.std.proofs.Common.{◌≡◌, ◌⊎◌, ◌∙◌, ap, inl, inr, subst, sym, refl, ℕ, suc, ◌+◌, ◌≤◌, ◌<◌, Bool, true, false, List, [], ◌∷◌, ◌++◌, length, get_or, Option, Some, None, option_map, Result, Ok, Err, IfErr, IfOk, IfSome, IsTrue, arith}
+use Rattle.std.proofs.Common.{◌≡◌, ◌⊎◌, ◌∙◌, ap, append_assoc, inl, inr, subst, sym, refl, ℕ, suc, ◌+◌, ◌≤◌, ◌<◌, Bool, true, false, List, [], ◌∷◌, ◌++◌, length, get_or, Option, Some, None, option_map, Result, Ok, Err, IfErr, IfOk, IfSome, IsTrue, arith}
 use Rattle.std.specs.Prelude.{nat_lt, if◌then◌else◌}
 use Rattle.std.specs.List.{All, AllPairs, Any, Contains}
 use Rattle.std.specs.Io.KnownBytes.{Appends, Keeps}
@@ -22,7 +22,7 @@ use Rattle.arguments.specs.declared.search_options.SearchOptions.{SearchOptions}
 use Rattle.arguments.specs.declared.observed.Observed.{Observed}
 use Rattle.files.specs.Saved.{IsHeld, KeepsFiles, MadeFile, SavesAllWhereAsked, SavesSomeWhereAsked}
 use Rattle.program.specs.Findings.{OnEvery, endless_number, endings_of, finding_of, first_text, have_stops, journals_of, limits_in, search_stop_of, stops_from, unless_stopped}
-use Rattle.program.specs.Observed.{AreAllWaves, AreFoundWaves, AreRegistersAsked, AreRegistersOf, AreWavesSaid, HasFoundWaves, HasLeftWaves, HasNoRegister, HasObserved, HasArrangedTexts, HasSaidWaves, HasSavedWaves, IsLawfulWave, IsNameTold, IsObservedEnding, IsWaveClaimWithin, observer_of_registers, observes_all, texts_bound, wave_claim_of}
+use Rattle.program.specs.Observed.{AreAllWaves, AreFoundWaves, AreRegistersAsked, AreRegistersOf, AreWavesSaid, HasFoundWaves, HasLeftWaves, HasNoRegister, HasObserved, HasArrangedTexts, HasSaidWaves, HasSavedWaves, IsLawfulWave, IsNameTold, IsObservedEnding, IsWaveClaimWithin, observer_of_registers, observes_all, texts_bound, wave_claim_of, before_line}
 use Rattle.program.specs.declared.ending.Ending.{Ending}
 use Rattle.program.specs.declared.ending.Ending.TheVariants as ending
 use Rattle.frontend.specs.Sources.{IsDesignOf}
@@ -216,16 +216,20 @@ texts_of_waves Q (s ∷ ss) (w ∷ ws) ((text, end, moves), more) all =
 
 -- what is said of waves
 
-pub waves_said : (code : Compiled) (asked : Observed) (registers : List ℕ) (search_options : SearchOptions) (prefix : Option (List ℕ)) (claim : Claim) (waves shown : List (Shown Entry End)) (empty parts said first : List ℕ) (lines : ℕ) (endings : RunEndings) (stops : List StopDescription) → shown ≡ waves → empty ≡ [] → TellsWaves code.names registers prefix shown empty parts
-    → said ≡ parts ++ wave_verdict_text claim search_options.until (length shown) (observes_all asked) (length registers) lines endings stops prefix → first ≡ first_text shown → lines ≡ printed_lines (length registers) first → endings ≡ endings_of shown → stops ≡ stops_from 1 shown → AreWavesSaid code asked registers search_options prefix claim waves said
-waves_said code asked registers search_options prefix claim waves shown empty parts said first lines endings stops same none tells is begins printed ended short =
+pub waves_said : (code : Compiled) (asked : Observed) (registers : List ℕ) (search_options : SearchOptions) (prefix : Option (List ℕ)) (claim : Claim) (waves shown : List (Shown Entry End)) (empty parts mid said first : List ℕ) (before : Option ℕ) (lines : ℕ) (endings : RunEndings) (stops : List StopDescription) → shown ≡ waves → empty ≡ [] → TellsWaves code.names registers prefix shown empty parts
+    → mid ≡ parts ++ before_line claim before → said ≡ mid ++ wave_verdict_text claim search_options.until (length shown) (observes_all asked) (length registers) lines endings stops prefix → first ≡ first_text shown → lines ≡ printed_lines (length registers) first → endings ≡ endings_of shown → stops ≡ stops_from 1 shown → AreWavesSaid code asked registers search_options prefix claim waves said
+waves_said code asked registers search_options prefix claim waves shown empty parts mid said first before lines endings stops same none tells told is begins printed ended short =
+    let verdict = wave_verdict_text claim search_options.until (length shown) (observes_all asked) (length registers) lines endings stops prefix in
+    let line = before_line claim before in
     subst (λ (ws : List (Shown Entry End)). AreWavesSaid code asked registers search_options prefix claim ws said) same (record {
       parts = parts;
       tells = subst (λ (l : List ℕ). TellsWaves code.names registers prefix shown l parts) none tells;
+      before = before;
       said_is =
-          is ∙ (ap (λ (n : ℕ). parts ++ wave_verdict_text claim search_options.until (length shown) (observes_all asked) (length registers) n endings stops prefix) (printed ∙ ap (printed_lines (length registers)) begins)
-          ∙ (ap (λ (e : RunEndings). parts ++ wave_verdict_text claim search_options.until (length shown) (observes_all asked) (length registers) (printed_lines (length registers) (first_text shown)) e stops prefix) ended
-          ∙ ap (λ (l : List StopDescription). parts ++ wave_verdict_text claim search_options.until (length shown) (observes_all asked) (length registers) (printed_lines (length registers) (first_text shown)) (endings_of shown) l prefix) short));
+          is ∙ (ap (λ (l : List ℕ). l ++ verdict) told ∙ (append_assoc parts line verdict
+          ∙ (ap (λ (n : ℕ). parts ++ (line ++ wave_verdict_text claim search_options.until (length shown) (observes_all asked) (length registers) n endings stops prefix)) (printed ∙ ap (printed_lines (length registers)) begins)
+          ∙ (ap (λ (e : RunEndings). parts ++ (line ++ wave_verdict_text claim search_options.until (length shown) (observes_all asked) (length registers) (printed_lines (length registers) (first_text shown)) e stops prefix)) ended
+          ∙ ap (λ (l : List StopDescription). parts ++ (line ++ wave_verdict_text claim search_options.until (length shown) (observes_all asked) (length registers) (printed_lines (length registers) (first_text shown)) (endings_of shown) l prefix)) short))));
     })
 
 -- the registers that a list of names means, or the first name that no register has, where they are asked for

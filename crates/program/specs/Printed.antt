@@ -1,5 +1,5 @@
 -- What a command leaves on standard output and in files.
-use Rattle.std.specs.Prelude.{◌≡◌, ◌⊎◌, ◌<◌, ◌++◌, ℕ, Bool, IsTrue, true, false, List, Option, Some, None, codes, drop, length, string_bytes}
+use Rattle.std.specs.Prelude.{◌≡◌, ◌⊎◌, ◌<◌, ◌++◌, ℕ, Bool, IsTrue, true, false, List, [], Option, Some, None, codes, drop, length, string_bytes}
 use Rattle.std.specs.Io.KnownBytes.{Appends, Keeps}
 use Rattle.design.specs.Compiled.{Compiled, design_of}
 use Rattle.model.specs.Syntax.{Module}
@@ -35,13 +35,14 @@ use Rattle.causes.specs.declared.causes.Causes.{Causes}
 use Rattle.verdict.specs.declared.claim.Claim.{Claim}
 use Rattle.verdict.specs.Verdicts.{verdict_text}
 use Rattle.naming.specs.Naming.{TellsMore, TellsRaces}
+use Rattle.naming.specs.SearchReach.{TellsReach}
 use Rattle.arguments.specs.declared.search_options.SearchOptions.{SearchOptions}
 use Rattle.program.specs.Presentations.{presentation_in}
 use Rattle.program.specs.declared.racing.NamedRaces.{NamedRaces}
 use Rattle.program.specs.declared.racing.ToldRaces.{ToldRaces}
 use Rattle.program.specs.declared.finding.SearchFinding.{SearchFinding}
 use Rattle.program.specs.declared.finding.SearchFinding.TheVariants as finding
-use Rattle.program.specs.Findings.{AreFound, AreKnown, AreRaces, AreRacesKnown, HaveSomeEnds, endings_of, finding_of, first_text, have_stops, journals_of, lacks_memory, limits_in, stops_from, until_line}
+use Rattle.program.specs.Findings.{AreFound, AreKnown, AreRaces, AreRacesKnown, HaveSomeEnds, endings_of, finding_of, first_text, have_stops, journals_of, lacks_memory, limits_in, stops_from, until_line, met_limit}
 use Rattle.program.specs.declared.fault.CommandFault.{CommandFault}
 use Rattle.program.specs.declared.fault.Stop.{Stop}
 use Rattle.program.specs.declared.running.LeftByRun.{LeftByRun}
@@ -169,6 +170,18 @@ pub record IsToldLast (search_options : SearchOptions) (prefix : Option (List �
   pub apart : HaveSomeEnds shown ends
   pub text_is : last ≡ verdict_text claim search_options.until (length shown) ends (endings_of shown) (first_text shown) (stops_from 1 shown) prefix ++ until_line search_options.until claim end
 
+-- How far a search came that met a limit is told, or nothing is: before which time all orders were followed, and where most choices are.
+abbrev pub IsReachTold : List ℕ → Claim → List ℕ → Type 0
+IsReachTold source claim lines = (lines ≡ []) ⊎ ((time : ℕ) × IsTrue (met_limit claim) × TellsReach source time [] lines)
+
+-- What is said of texts behind a search whose first run has this end, behind how far that came, where it met a limit.
+pub record IsSaidLast (source : List ℕ) (search_options : SearchOptions) (prefix : Option (List ℕ)) (end : End) (claim : Claim) (shown : List (Shown Entry End)) (said : List ℕ) : Type 0 where
+  pub reach : List ℕ
+  pub is_reach : IsReachTold source claim reach
+  pub last : List ℕ
+  pub is_last : IsToldLast search_options prefix end claim shown last
+  pub said_is : said ≡ reach ++ last
+
 -- What is said of a search, after these races were told and these texts were known: texts were found, with those that were known before all others, those of the runs of these
 -- races are among them, unless as many as may be are, and further races and this are told of them.
 pub record HasFound (source : List ℕ) (design : Compiled) (search_options : SearchOptions) (prefix : Option (List ℕ)) (early : ToldRaces) (last : List ℕ) : Type 0 where
@@ -181,7 +194,7 @@ pub record HasFound (source : List ℕ) (design : Compiled) (search_options : Se
   pub more : List ℕ
   pub is_more : IsToldMore source design search_options prefix early.races shown more
   pub said : List ℕ
-  pub is_said : IsToldLast search_options prefix early.races.found.original.end claim shown said
+  pub is_said : IsSaidLast source search_options prefix early.races.found.original.end claim shown said
   pub last_is : last ≡ more ++ said
 
 -- Of the design that the source in a file describes races were told, and then what was found of its texts, so far as this says. Output grew by both, the journals of the texts, and of a run that comes to no

@@ -12,7 +12,7 @@ ghost use Rattle.arguments.specs.Options.{CanSearch};
 ghost use Rattle.arguments.specs.declared.observed.Observed.TheVariants.{Lines};
 ghost use Rattle.files.specs.Saved.{KeepsFiles, LeadsElsewhere, journal_path};
 ghost use Rattle.program.specs.Findings.{AreFew};
-ghost use Rattle.program.specs.Observed.{AreFoundWaves, AreRegistersAsked, AreRegistersOf, AreWavesSaid, HasLeftWaves, HasObserved, IsNameTold, IsObservedEnding, HasSavedWaves, most_texts, observer_of_registers, observes_all, texts_bound, wave_claim_of};
+ghost use Rattle.program.specs.Observed.{AreFoundWaves, AreRegistersAsked, AreRegistersOf, AreWavesSaid, HasLeftWaves, HasObserved, IsNameTold, IsObservedEnding, HasSavedWaves, most_texts, observer_of_registers, observes_all, texts_bound, wave_claim_of, before_line, followed_at_limit};
 ghost use Rattle.program.specs.Printed.{AreUntouched};
 ghost use Rattle.program.specs.Program.{status_of};
 
@@ -22,7 +22,8 @@ use crate::fault::CommandFault;
 use crate::known::KnownTexts;
 use crate::run_ends::endings_of;
 use crate::searching::{
-    bounds_of, claim_of, endless_of, finding_of, first_of, number_of, stop_of, tell_texts,
+    bounds_of, claim_of, endless_of, finding_of, first_of, met_limit, number_of, stop_of,
+    tell_texts,
 };
 use crate::stops::stops_of;
 use crate::texts::{FoundTexts, ToldTexts};
@@ -39,7 +40,7 @@ use observers::Observing;
 use progress::Progress;
 use std::alloc::{AllocError, Global};
 use std::io::Write;
-use verdict::{Claim, SearchStop, WaveVerdict, push_wave_verdict};
+use verdict::{Claim, SearchStop, WaveVerdict, push_followed, push_wave_verdict};
 use wavetexts::{
     NamedRegisters, WaveNames, all_registers, printed_lines, push_waves, registers_named, waves_of,
 };
@@ -187,6 +188,8 @@ fn find_waves<P: Progress>(
         stopped,
         nodes,
         endless,
+        followed_before,
+        widest,
     } = explored;
     let mut all = KnownTexts {
         shown: Vec::new(alloc),
@@ -202,6 +205,8 @@ fn find_waves<P: Progress>(
         claim,
         shown,
         endless,
+        followed_before,
+        widest,
     })
 }
 
@@ -300,6 +305,28 @@ fn wave_lines(
     };
     let mut said = Vec::new(alloc);
     push_waves(&mut said, &names, shown)?;
+    push_before(&mut said, waves.claim, waves.followed_before)?;
     push_wave_verdict(&mut said, &verdict)?;
     Ok(said)
+}
+
+/// Puts the line on a time before which all orders were followed behind a text, where it is claimed that a search met a limit, and that is known.
+fn push_before(text: &mut Vec<u8>, claim: Claim, before: Option<u64>) -> Result<(), AllocError>
+    ensures { OnOk result (text.new.items ≡ text.old.items ++ before_line claim before) }
+{
+    match before {
+        Some(time) => push_before_time(text, claim, time),
+        None => Ok(()),
+    }
+}
+
+/// Puts the line on this time before which all orders were followed behind a text, where it is claimed that a search met a limit.
+fn push_before_time(text: &mut Vec<u8>, claim: Claim, time: u64) -> Result<(), AllocError>
+    ensures { OnOk result (text.new.items ≡ text.old.items ++ followed_at_limit claim time) }
+{
+    if met_limit(claim) {
+        push_followed(text, time)
+    } else {
+        Ok(())
+    }
 }

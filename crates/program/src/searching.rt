@@ -11,7 +11,7 @@ ghost use Rattle.frontend.specs.Sources.{IsDesignOf};
 ghost use Rattle.program.specs.Findings.{AreFound, HaveSomeEnds, IsLawfulShown, claim_of, finding_of, first_text, has_most, have_stops, is_cut, is_limit, journals_of, limits_in, met_limit, or_full, search_stop_of, unless_stopped, until_line, wants_until};
 ghost use Rattle.arguments.specs.Options.{CanSearch};
 ghost use Rattle.program.specs.Program.{status_of};
-ghost use Rattle.program.specs.Printed.{HasLeft, HasShown, IsToldLast};
+ghost use Rattle.program.specs.Printed.{HasLeft, HasShown, IsToldLast, IsReachTold, IsSaidLast};
 ghost use Rattle.files.specs.FileStatuses.{IsFileStatus, file_status};
 ghost use Rattle.files.specs.Saved.{IsHeld, KeepsFiles, LeadsElsewhere, MadeFile, SavesAllWhereAsked, SavesSomeWhereAsked, journal_path};
 ghost use Rattle.program.specs.EarlyJournals.{AreSavedEarly};
@@ -33,7 +33,7 @@ use frontend::read_design;
 use lawful::lawful_orders;
 use model::end::{End, Limits, Why};
 use model::entry::Entry;
-use naming::RaceNames;
+use naming::{RaceNames, SearchReach, push_reach};
 use progress::Progress;
 use std::alloc::{AllocError, Global};
 use std::io::Write;
@@ -106,7 +106,7 @@ fn search_design<F: Files, O: Write>(
     };
     let search_options = request.search_options;
     let more = more_lines(alloc, &names, search_options, races, &files.progress())?;
-    let said = last_lines(alloc, &texts, search_options, request.journals, end)?;
+    let said = said_lines(alloc, &names, &texts, search_options, end)?;
     let last = joined(more, said.as_slice())?;
     let found = finding_of(&texts, refused);
     let told = ToldTexts { texts, lines: last };
@@ -150,6 +150,7 @@ pub(crate) fn tell_texts<F: Files, O: Write>(
         claim: _,
         shown,
         endless,
+        ..
     } = texts;
     let journals = with_endless(alloc, shown, endless)?;
     let all = journals.as_slice();
@@ -231,6 +232,8 @@ fn find_texts<P: Progress>(
         stopped,
         nodes,
         endless,
+        followed_before,
+        widest,
     } = explored;
     let mut all = KnownTexts {
         shown: known,
@@ -246,6 +249,8 @@ fn find_texts<P: Progress>(
         claim,
         shown,
         endless,
+        followed_before,
+        widest,
     })
 }
 
@@ -363,7 +368,7 @@ fn is_limit(search_stop: SearchStop) -> bool
 }
 
 /// Whether it is claimed that a search met a limit.
-fn met_limit(claim: Claim) -> bool
+pub(crate) fn met_limit(claim: Claim) -> bool
     ensures { result ≡ met_limit claim }
 {
     match claim {
@@ -413,6 +418,58 @@ fn until_line(until: Option<u64>, claim: Claim, end: End) -> &'static [u8]
     } else {
         b""
     }
+}
+
+/// How far a search came that left something out, if that is known.
+fn reach_of(texts: &FoundTexts) -> Option<SearchReach<'_>> {
+    let followed_before = match texts.followed_before {
+        Some(time) => time,
+        None => return None,
+    };
+    let widest = match &texts.widest {
+        Some(journal) => Some(journal.as_slice()),
+        None => None,
+    };
+    Some(SearchReach {
+        followed_before,
+        widest,
+    })
+}
+
+/// The lines on how far a search came that met a limit, if that is known; none where it met none.
+fn reach_lines(
+    alloc: Global,
+    names: &RaceNames<'_>,
+    texts: &FoundTexts,
+) -> Result<Vec<u8>, AllocError>
+    ensures { IfOk result (λ lines. IsReachTold names.entry.now.source.now texts.now.claim lines.items) }
+{
+    if !met_limit(texts.claim) {
+        return Ok(Vec::new(alloc));
+    }
+    let reach = match reach_of(texts) {
+        Some(reach) => reach,
+        None => return Ok(Vec::new(alloc)),
+    };
+    let mut lines = Vec::new(alloc);
+    push_reach(alloc, &mut lines, names.source, names.design, reach)?;
+    Ok(lines)
+}
+
+/// What is said of a search, where the first run has this end: how far it came, where it met a limit, and what is said of the texts.
+fn said_lines(
+    alloc: Global,
+    names: &RaceNames<'_>,
+    texts: &FoundTexts,
+    search_options: SearchOptions,
+    end: End,
+) -> Result<Vec<u8>, AllocError>
+    ensures { IfOk result (λ said. IsSaidLast names.entry.now.source.now search_options (option_map (λ path. path.now) names.entry.now.prefix) end texts.now.claim texts.now.shown.items said.items) }
+{
+    let reach = reach_lines(alloc, names, texts)?;
+    let last = last_lines(alloc, texts, search_options, names.prefix, end)?;
+    let said = joined(reach, last.as_slice())?;
+    Ok(said)
 }
 
 /// What is said of the texts, where the first run has this end.

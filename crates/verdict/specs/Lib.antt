@@ -7,3 +7,4 @@ pub mod WaveLines
 pub mod UnseenLines
 pub mod StopLines
 pub mod EndingLines
+pub mod ReachLines

@@ -5,11 +5,11 @@
 //!    `stops` whose runs stop short.
 //! 3. `race` puts a race into lines, or says that none was found between two texts, `difference` finds the first line in which the texts of its two runs differ, `order` says
 //!    which processes print their lines in another order in another run, and `cut` by what a list of races was cut.
-//!    `unseen` names registers whose values differ where no line shows it.
+//!    `unseen` names registers whose values differ where no line shows it, and `reach` says how far in time a search came that met a limit.
 //! 4. `waves` says the same of waves: of what runs have in common where more or less than their lines, in order, is compared.
 //!
-//! What the layer above uses: `push_verdict`, `push_race`, `push_line_order`, `push_unnamed`, `push_cut`, `push_unseen_line`, `push_wave` and `push_wave_verdict`, whose texts are pinned whole by
-//! `specs/Verdicts`, `specs/RaceLines`, `specs/OrderLines`, `specs/CutLines`, `specs/UnseenLines`, `specs/StopLines`, `specs/EndingLines` and `specs/WaveLines`, and `first_difference` and `line_length` (`specs/VerdictLines`).
+//! What the layer above uses: `push_verdict`, `push_race`, `push_line_order`, `push_unnamed`, `push_cut`, `push_followed`, `push_choices`, `push_raced_pair`, `push_unseen_line`, `push_wave` and `push_wave_verdict`, whose texts are pinned whole by
+//! `specs/Verdicts`, `specs/RaceLines`, `specs/OrderLines`, `specs/CutLines`, `specs/ReachLines`, `specs/UnseenLines`, `specs/StopLines`, `specs/EndingLines` and `specs/WaveLines`, and `first_difference` and `line_length` (`specs/VerdictLines`).
 #![tactic(auto)]
 
 mod claim;
@@ -19,6 +19,7 @@ mod endings;
 mod order;
 mod phrases;
 mod race;
+mod reach;
 mod stops;
 mod unseen;
 mod verdict;
@@ -33,6 +34,7 @@ pub use race::{
     ProcessDescription, RaceDescription, RoleDescription, RunDescription, SiteDescription,
     push_line, push_race, push_unnamed,
 };
+pub use reach::{push_choices, push_followed};
 pub use stops::{StopCause, StopDescription};
 pub use unseen::{push_raced_pair, push_unseen_line};
 pub use verdict::{Verdict, push_verdict};

@@ -41,7 +41,10 @@ pub fn push_line_order(
 }
 
 /// Puts processes behind a text, with a comma between two of them and a word before the last.
-fn push_printers(text: &mut Vec<u8>, printers: &[PrinterDescription]) -> Result<(), AllocError>
+pub(crate) fn push_printers(
+    text: &mut Vec<u8>,
+    printers: &[PrinterDescription],
+) -> Result<(), AllocError>
     ensures { OnOk result (text.new.items ≡ text.old.items ++ printers_text printers.now) }
 {
     match printers.split_first() {
