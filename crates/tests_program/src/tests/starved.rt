@@ -6,7 +6,7 @@
 //! rest.
 
 use super::claims::{fail, holds, holds_as, holds_of};
-use super::sources::NO_ENTRY;
+use super::sources::{NO_ENTRY, RACE};
 use super::{
     EXPLAIN, Expected, ONE_WORKER, REPLAY, Shared, Target, TextPattern, WAVES, repeated, status_of,
     tells, words_of,
@@ -408,8 +408,6 @@ fn tells_that_no_worker_starts(rt: HostRuntime) {
     let wanted = tells(6, "vsimtx: cannot start worker\n");
     assert_lost(&rt, rt.alloc(), asked, &places, "sfF", wanted);
 }
-
-const RACE: &str = "module t; reg a; initial a = 1'b1; initial $display(\"%b\", a); endmodule";
 
 /// What is told of the race before the search, and that memory was refused.
 const NAMED: Expected<'static> = Expected {

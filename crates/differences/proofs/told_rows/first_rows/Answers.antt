@@ -1,7 +1,6 @@
 -- One more, until none is left.
-use Rattle.std.proofs.Common.{◌≡◌, ◌∙◌, ap, sym, subst, ℕ, ◌++◌, List, [], length, drop, arith}
-use Rattle.std.proofs.Math.Seq.{drop-length}
-use Rattle.std.proofs.lemmas.List.{append-nil}
+use Rattle.std.proofs.Common.{◌≡◌, ◌≤◌, ◌∙◌, ap, sym, subst, ℕ, ◌++◌, List, [], length, drop, arith}
+use Rattle.std.proofs.lemmas.List.{append-nil, drop_all}
 use Rattle.differences.specs.declared.value_difference.ValueDifference.{ValueDifference}
 use Rattle.differences.specs.ToldRows.{first_rows, has_row, row_unless}
 use Rattle.differences.proofs.FirstRows.{beside, beside_none, first_more}
@@ -18,13 +17,13 @@ loop-place-preserved c =
     let place : ℕ = c.loop-place.place in
     let old : List ValueDifference = c.loop-place.kept.items in
     let new : List ValueDifference = c.keep_first.new.kept.items in
-    first_more rows place c.index-rows-place.result old new (first_rows rows) (omega arith)
+    first_more rows place c.index-rows-place.result old new (first_rows rows) c.loop-place-test.true
     (subst (λ (d : ValueDifference). new ≡ old ++ row_unless (has_row d.register old) d) c.index-rows-place.is c.in_ok-keep_first.ensures) c.loop-place.invariant
 
 pub returns : goal.returns
 returns c =
     let rows : List ValueDifference = c.args.rows.now in
     let kept : List ValueDifference = c.loop-place.kept.items in
-    let ended : c.loop-place.place ≡ length rows = omega arith in
-    let none : drop c.loop-place.place rows ≡ [] = ap (λ (n : ℕ). drop n rows) ended ∙ drop-length rows in
+    let past : length rows ≤ c.loop-place.place = omega (arith, c.loop-place-test.false) in
+    let none : drop c.loop-place.place rows ≡ [] = drop_all c.loop-place.place rows past in
     sym (append-nil kept) ∙ (ap (λ (l : List ValueDifference). kept ++ beside kept (first_rows l)) (sym none) ∙ c.loop-place.invariant)
