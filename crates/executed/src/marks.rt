@@ -92,8 +92,9 @@ impl StatementMarks {
 
     // Marks the nodes by which an earlier turn left a write of this register over for a process that goes on at a place.
     fn mark_left_over(&mut self, design: &Design, register: RegId, place: usize) {
-        for at in 0..design.nodes().len() {
-            if leaves_over(&design.nodes()[at], register, place) {
+        let nodes = design.nodes();
+        for at in 0..nodes.len() {
+            if leaves_over(&nodes[at], register, place) {
                 self.mark(at);
             }
         }
@@ -148,16 +149,20 @@ impl StatementMarks {
         }
     }
 
+    // Marks the node of the event control with a number.
+    fn mark_control(&mut self, design: &Design, control: usize) {
+        let nodes = design.nodes();
+        for at in 0..nodes.len() {
+            if waits_at(&nodes[at], control) {
+                self.mark(at);
+            }
+        }
+    }
+
     // Marks the node at whose event control a turn's process waits behind it.
     fn mark_wait(&mut self, design: &Design, suspend: Suspend) {
         match suspend {
-            Suspend::Event(control) => {
-                for at in 0..design.nodes().len() {
-                    if waits_at(&design.nodes()[at], control) {
-                        self.mark(at);
-                    }
-                }
-            }
+            Suspend::Event(control) => self.mark_control(design, control),
             _ => {}
         }
     }

@@ -8,7 +8,7 @@ use model::entry::Entry;
 use std::alloc::{AllocError, Global};
 
 // The most entries of a journal that is gone along.
-const MOST_ENTRIES: usize = 200_000;
+const MOST_ENTRIES: usize = 100_000;
 
 /// What is looked for: the statements by which a process does at a site what its role says, in its turns at a time of a journal.
 #[derive(Clone, Copy)]

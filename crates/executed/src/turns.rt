@@ -5,8 +5,9 @@ use crate::marks::{SoughtTurn, StatementMarks};
 use crate::statements::StatementSearch;
 use design::{ProcState, RegId};
 use model::entry::Entry;
-use regions::{Machine, State};
+use regions::{Due, Machine, State, Update};
 use std::alloc::{AllocError, Global};
+use std::collections::VecDeque;
 use turn::TurnLog;
 
 /// What is looked for in the turns of a process: what its statements do, and, for an update, the number of its event.
@@ -27,31 +28,52 @@ fn turn_of(machine: &Machine<'_>, entry: Entry) -> Option<(u64, u32, ProcState)>
     }
 }
 
-// Whether an update with a number is to come.
-fn has_update(state: &State, number: u64) -> bool {
-    for at in 0..state.nonblocking().len() {
-        if state.nonblocking()[at].number == number {
-            return true;
-        }
-    }
-    for at in 0..state.future_updates().len() {
-        if state.future_updates()[at].event.number == number {
+// Whether an update with a number is among those of the nonblocking region.
+fn has_nonblocking(updates: &VecDeque<Update>, number: u64) -> bool {
+    for at in 0..updates.len() {
+        if updates[at].number == number {
             return true;
         }
     }
     false
 }
 
-// The greatest number of an update that is to come.
-fn last_update(state: &State) -> u64 {
-    let mut last: u64 = 0;
-    for at in 0..state.nonblocking().len() {
-        last = last.max(state.nonblocking()[at].number);
+// Whether an update with a number is among those of later times.
+fn has_future(updates: &VecDeque<Due<Update>>, number: u64) -> bool {
+    for at in 0..updates.len() {
+        if updates[at].event.number == number {
+            return true;
+        }
     }
-    for at in 0..state.future_updates().len() {
-        last = last.max(state.future_updates()[at].event.number);
+    false
+}
+
+// Whether an update with a number is to come.
+fn has_update(state: &State, number: u64) -> bool {
+    has_nonblocking(state.nonblocking(), number) || has_future(state.future_updates(), number)
+}
+
+// The greatest number of an update of the nonblocking region.
+fn last_nonblocking(updates: &VecDeque<Update>) -> u64 {
+    let mut last: u64 = 0;
+    for at in 0..updates.len() {
+        last = last.max(updates[at].number);
     }
     last
+}
+
+// The greatest number of an update of a later time.
+fn last_future(updates: &VecDeque<Due<Update>>) -> u64 {
+    let mut last: u64 = 0;
+    for at in 0..updates.len() {
+        last = last.max(updates[at].event.number);
+    }
+    last
+}
+
+// The greatest number of an update that is to come.
+fn last_update(state: &State) -> u64 {
+    last_nonblocking(state.nonblocking()).max(last_future(state.future_updates()))
 }
 
 // The number of the update of a register that an entry takes, if it takes one.
@@ -109,9 +131,10 @@ pub(crate) struct TurnFinder<'a> {
 
 // Where the processes stand, by their numbers.
 fn places_of(alloc: Global, state: &State) -> Result<Vec<usize>, AllocError> {
+    let processes = state.processes();
     let mut places = Vec::new(alloc);
-    for at in 0..state.processes().len() {
-        places.push(state.processes()[at].state.place)?;
+    for at in 0..processes.len() {
+        places.push(processes[at].state.place)?;
     }
     Ok(places)
 }

@@ -10,13 +10,12 @@ use Rattle.explore.specs.Grown.{grown}
 use Rattle.explore.specs.Lineage.{ways}
 use Rattle.explore.specs.SearchKept.{AreKept, Grows}
 use Rattle.explore.specs.SearchedRuns.{Runs}
-use Rattle.explore.specs.Search.{IsShown, Serves, IsFollowed}
 use Rattle.explore.specs.Reach.{earliest, earliest_left, AreFollowedBefore, AreTimed, HasNode, IsAtTime, IsFollowedOrOpen, IsLeftOpen, IsNoLater, IsWayAmong}
 use Rattle.explore.specs.declared.Shown.{Shown}
 use Rattle.explore.specs.declared.kept.KeptNodes.{KeptNodes}
 use Rattle.explore.specs.declared.kept.Reached.{Reached}
 use Rattle.explore.specs.declared.stopped.Stopped.{Stopped}
-use Rattle.explore.proofs.Growing.{Extends-itself, get_or-extends, length-extends, length-grown, get_or-grown}
+use Rattle.explore.proofs.Growing.{Extends-itself, get_or-extends, length-grown, get_or-grown}
 use Rattle.explore.proofs.Complete.{Any-extends, IsFollowed-more}
 use Rattle.explore.proofs.Counting.{stood_at, some_none}
 use Rattle.explore.proofs.Keeping.{Any-split}

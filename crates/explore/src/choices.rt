@@ -1,5 +1,5 @@
-//! Where several ways lead on from one node: how many do at each time. It is counted for people, and no clause speaks of it.
-ghost use Rattle.std.specs.Prelude.{◌≡◌, ◌<◌, [], length, get_or, IfSome};
+//! Where several ways lead on from one node: how many do at each time. It is counted for people, and no clause says that the count is right.
+ghost use Rattle.std.specs.Prelude.{IfSome};
 ghost use Rattle.explore.specs.Lineage.{ways, IsLineage};
 ghost use Rattle.explore.specs.Reach.{IsWayAmong};
 

@@ -7,7 +7,7 @@ ghost use Rattle.naming.specs.Naming.{AddsOrder, AreWordsOf, HasJournal, IsDiffe
 use crate::alone::{differ_in_order, order_alone_line};
 use crate::line_orders::{LineOrder, push_orders};
 use crate::places::{SourcePlaces, none_uncut, places_with, statements_of};
-use crate::role_words::role_words;
+use crate::role_words::{has_several_lines, role_words};
 use crate::unseen::push_unseen;
 use crate::words::{cut_of, site_of};
 use accesses::are_same;
@@ -247,8 +247,8 @@ fn push_numbered<'a>(
     ensures { OnOk result (TellsNumbered places.now names.entry.now.design.now names.entry.now.shown.now (option_map (λ path. path.now) names.entry.now.prefix) original.entry.now number race.entry.now text.old.items text.new.items) }
 {
     let site = site_of(names.design, race.site);
-    let first_run = run_of(places.alloc, names.design, original, race, race.first)?;
-    let second_run = run_of(places.alloc, names.design, original, race, race.second)?;
+    let first_run = run_of(places, site, names.design, original, race, race.first)?;
+    let second_run = run_of(places, site, names.design, original, race, race.second)?;
     let first = role_words(places, site, race.first, &first_run)?;
     let second = role_words(places, site, race.second, &second_run)?;
     let words = RaceWords {
@@ -262,19 +262,23 @@ fn push_numbered<'a>(
 }
 
 /// The statements by which a process does in a race what its role says, if they are known: in the first of its runs, or else in the second.
-/// Fails where memory is refused.
+/// They aren't looked for where all that may have done so stand in one line. Fails where memory is refused.
 fn run_of(
-    alloc: Global,
+    places: &SourcePlaces<'_>,
+    site: SiteDescription<'_>,
     design: &Design,
     original: &RunRecord,
     race: &Race,
     role: accesses::Role,
 ) -> Result<Option<RunStatements>, AllocError> {
-    let run = run_in(alloc, design, original, race, role)?;
+    if !has_several_lines(places, site, role) {
+        return Ok(None);
+    }
+    let run = run_in(places.alloc, design, original, race, role)?;
     if has_run(&run) {
         return Ok(run);
     }
-    run_in(alloc, design, &race.exchanged, race, role)
+    run_in(places.alloc, design, &race.exchanged, race, role)
 }
 
 /// The statements by which a process does in a run what its role in a race says, if they are known. Fails where memory is refused.

@@ -91,6 +91,18 @@ fn role_lines(places: &SourcePlaces<'_>, site: SiteDescription<'_>, role: Role) 
     lines_done(places, role.process, name, part_done(role.does))
 }
 
+/// Whether what a process does at a site stands in several lines.
+pub(crate) fn has_several_lines(
+    places: &SourcePlaces<'_>,
+    site: SiteDescription<'_>,
+    role: Role,
+) -> bool {
+    match role_lines(places, site, role) {
+        Some(range) => range.first != range.last,
+        None => false,
+    }
+}
+
 /// A word, and behind it the one line of a range.
 fn at_line(alloc: Global, word: &str, line: usize) -> Result<String, AllocError>
     ensures { IfOk result (λ words. string_bytes words ≡ word.now ++ codes " at line " ++ decimal line) }

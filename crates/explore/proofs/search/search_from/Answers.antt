@@ -3,7 +3,7 @@ use Rattle.std.proofs.lemmas.List.Elements.{All-nil, All-push}
 use Rattle.std.specs.List.{All, Any}
 use Rattle.explore.specs.Search.{IsOfRun, AreCounted}
 use Rattle.explore.specs.Lineage.{ways}
-use Rattle.explore.specs.Reach.{earliest, earliest_left, IsFollowedOrOpen, IsNoLater}
+use Rattle.explore.specs.Reach.{earliest_left, IsFollowedOrOpen, IsNoLater}
 use Rattle.explore.specs.Pieces.{pieces}
 use Rattle.explore.specs.declared.Shown.{Shown}
 use Rattle.explore.specs.declared.kept.KeptNodes.{KeptNodes}

@@ -1,5 +1,5 @@
 -- The time and the choice are told.
-use Rattle.std.proofs.Common.{◌≡◌, ◌++◌, ◌∙◌, ap, append_assoc, List, ℕ, sym}
+use Rattle.std.proofs.Common.{◌++◌, ◌∙◌, ap, append_assoc, List, ℕ}
 use Rattle.locations.specs.declared.location.ProcessLocation.{ProcessLocation}
 use Rattle.verdict.specs.ReachLines.{followed_text}
 use Rattle.naming.specs.SearchReach.{choice_line}

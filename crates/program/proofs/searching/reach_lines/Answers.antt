@@ -1,5 +1,5 @@
 -- How far a search came is told, or nothing is.
-use Rattle.std.proofs.Common.{◌≡◌, ◌∙◌, List, ℕ, inl, inr, sym, subst}
+use Rattle.std.proofs.Common.{◌∙◌, List, ℕ, inl, inr, sym, subst}
 use Rattle.naming.specs.SearchReach.{TellsReach}
 use Rattle.program.proofs.searching.reach_lines.Goals as goal
 

@@ -1,5 +1,5 @@
 -- What is said of the texts stands behind how far the search came.
-use Rattle.std.proofs.Common.{◌≡◌, ◌++◌, ◌∙◌, ap, List, ℕ}
+use Rattle.std.proofs.Common.{◌++◌, ◌∙◌, ap, List, ℕ}
 use Rattle.program.proofs.searching.said_lines.Goals as goal
 
 pub returns : goal.returns
