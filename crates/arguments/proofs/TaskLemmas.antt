@@ -94,7 +94,9 @@ task_gives task.Explain cmd m p h = record {
   journal = required_text cmd m (rules_of task.Explain) 1 (rule (codes "JOURNAL") true None) p h refl refl refl refl refl;
   from = given cmd m (rules_of task.Explain) 2 (rule (codes "from") false (Some entries_parser)) entries_parser p h refl refl refl refl;
   to = given cmd m (rules_of task.Explain) 3 (rule (codes "to") false (Some entries_parser)) entries_parser p h refl refl refl refl;
-  versions = given cmd m (rules_of task.Explain) 5 (flag_rule (codes "versions")) flag_parser p h refl refl refl refl;
+  from_time = given cmd m (rules_of task.Explain) 4 (rule (codes "from-time") false (Some until_parser)) until_parser p h refl refl refl refl;
+  to_time = given cmd m (rules_of task.Explain) 5 (rule (codes "to-time") false (Some until_parser)) until_parser p h refl refl refl refl;
+  versions = given cmd m (rules_of task.Explain) 7 (flag_rule (codes "versions")) flag_parser p h refl refl refl refl;
 }
 task_gives task.Waves cmd m p h = record {
   file = required_text cmd m (rules_of task.Waves) 0 (rule (codes "FILE") true None) p h refl refl refl refl refl;
@@ -105,6 +107,7 @@ task_gives task.Diff cmd m p h = record {
   file = required_text cmd m (rules_of task.Diff) 0 (rule (codes "FILE") true None) p h refl refl refl refl refl;
   first = required_text cmd m (rules_of task.Diff) 1 (rule (codes "J1") true None) p h refl refl refl refl refl;
   second = required_text cmd m (rules_of task.Diff) 2 (rule (codes "J2") true None) p h refl refl refl refl refl;
+  all = given cmd m (rules_of task.Diff) 3 (flag_rule (codes "all")) flag_parser p h refl refl refl refl;
 }
 
 -- what that says of the words

@@ -105,12 +105,14 @@ parameters_of task.Explain =
     ∷ parameter.Journal
     ∷ parameter.From
     ∷ parameter.To
+    ∷ parameter.FromTime
+    ∷ parameter.ToTime
     ∷ parameter.Radix
     ∷ parameter.Versions
     ∷ parameter.Registers
     ∷ []
 parameters_of task.Waves = parameter.File ∷ parameter.Journal ∷ parameter.Out ∷ []
-parameters_of task.Diff = parameter.File ∷ parameter.FirstJournal ∷ parameter.SecondJournal ∷ []
+parameters_of task.Diff = parameter.File ∷ parameter.FirstJournal ∷ parameter.SecondJournal ∷ parameter.AllTimes ∷ []
 
 -- the rule of a word or an option
 abbrev pub rule_for : Parameter → Rule
@@ -129,6 +131,8 @@ rule_for parameter.Seed = rule (codes "seed") false (Some seed_parser)
 rule_for parameter.Observe = rule (codes "observe") false None
 rule_for parameter.From = rule (codes "from") false (Some entries_parser)
 rule_for parameter.To = rule (codes "to") false (Some entries_parser)
+rule_for parameter.FromTime = rule (codes "from-time") false (Some until_parser)
+rule_for parameter.ToTime = rule (codes "to-time") false (Some until_parser)
 rule_for parameter.Radix = rule (codes "radix") false None
 rule_for parameter.Versions = flag_rule (codes "versions")
 rule_for parameter.Registers = rule (codes "registers") false None
@@ -136,6 +140,7 @@ rule_for parameter.JournalTo = rule (codes "journal") false None
 rule_for parameter.JournalsTo = rule (codes "journals") false None
 rule_for parameter.Out = rule (codes "out") true None
 rule_for parameter.All = flag_rule (codes "all")
+rule_for parameter.AllTimes = flag_rule (codes "all")
 
 -- the rules of the command of a task
 abbrev pub rules_of : CommandTask → List Rule
@@ -181,6 +186,8 @@ pub record GivesExplain (f : Found) : Type 0 where
   pub journal : is_some (first_value f (codes "JOURNAL")) ≡ true
   pub from : IsGivenArgument f (codes "from") entries_parser
   pub to : IsGivenArgument f (codes "to") entries_parser
+  pub from_time : IsGivenArgument f (codes "from-time") until_parser
+  pub to_time : IsGivenArgument f (codes "to-time") until_parser
   pub versions : IsGivenArgument f (codes "versions") flag_parser
 
 -- what a parse of `waves` gives
@@ -194,6 +201,7 @@ pub record GivesDiff (f : Found) : Type 0 where
   pub file : is_some (first_value f (codes "FILE")) ≡ true
   pub first : is_some (first_value f (codes "J1")) ≡ true
   pub second : is_some (first_value f (codes "J2")) ≡ true
+  pub all : IsGivenArgument f (codes "all") flag_parser
 
 -- what a parse of the words of a task gives
 abbrev pub Gives : CommandTask → Found → Type 0

@@ -77,6 +77,8 @@ argument_of parameter.Seed = choice (codes "seed") (Some seed_parser)
 argument_of parameter.Observe = choice (codes "observe") None
 argument_of parameter.From = choice (codes "from") (Some entries_parser)
 argument_of parameter.To = choice (codes "to") (Some entries_parser)
+argument_of parameter.FromTime = choice (codes "from-time") (Some until_parser)
+argument_of parameter.ToTime = choice (codes "to-time") (Some until_parser)
 argument_of parameter.Radix = choice (codes "radix") None
 argument_of parameter.Versions = flag (codes "versions")
 argument_of parameter.Registers = choice (codes "registers") None
@@ -84,6 +86,7 @@ argument_of parameter.JournalTo = choice (codes "journal") None
 argument_of parameter.JournalsTo = choice (codes "journals") None
 argument_of parameter.Out = need (codes "out")
 argument_of parameter.All = flag (codes "all")
+argument_of parameter.AllTimes = flag (codes "all")
 
 -- a command with these words and options more
 abbrev pub with_arguments : App → List Parameter → App
@@ -151,10 +154,14 @@ explain_app =
     (with_rule
     (with_rule
     (with_rule
+    (with_rule
+    (with_rule
     (with_rule (new_app (codes "explain")) (place (codes "FILE")))
     (place (codes "JOURNAL")))
     (choice (codes "from") (Some entries_parser)))
     (choice (codes "to") (Some entries_parser)))
+    (choice (codes "from-time") (Some until_parser)))
+    (choice (codes "to-time") (Some until_parser)))
     (choice (codes "radix") None))
     (flag (codes "versions")))
     (choice (codes "registers") None)
@@ -168,14 +175,16 @@ waves_app =
     (place (codes "JOURNAL")))
     (need (codes "out"))
 
--- `diff` with its words
+-- `diff` with its words and option
 unfoldable pub diff_app : App
 diff_app =
     with_rule
     (with_rule
+    (with_rule
     (with_rule (new_app (codes "diff")) (place (codes "FILE")))
     (place (codes "J1")))
-    (place (codes "J2"))
+    (place (codes "J2")))
+    (flag (codes "all"))
 
 -- the command of a task
 abbrev pub app_by : CommandTask → App
@@ -301,6 +310,7 @@ kind_in_vain vain.NothingObserved = InvalidValue
 kind_in_vain vain.SamplesObserved = ArgumentConflict
 kind_in_vain vain.NoRadix = InvalidValue
 kind_in_vain vain.NoEntries = InvalidValue
+kind_in_vain vain.NoTimes = InvalidValue
 
 -- the words of a run give both a seed and a number of workers, which is answered by this kind of error
 abbrev pub AsksTwoOrders : CommandTask → List Row → ErrorKind → Type 0
@@ -324,7 +334,7 @@ abbrev pub HasNoRadix : Option Text → Type 0
 HasNoRadix None = ⊥
 HasNoRadix (Some letter) = (letter ≢ codes "b") × (letter ≢ codes "d") × (letter ≢ codes "h")
 
--- an entry stands behind another one, if that is given
+-- an entry or a time stands behind another one, if that is given
 abbrev pub is_behind : ℕ → Option ℕ → Bool
 is_behind from (Some to) = nat_lt to from
 is_behind from None = false
@@ -333,9 +343,13 @@ is_behind from None = false
 abbrev pub tells_no_entry : List Row → Bool
 tells_no_entry rows = is_behind (unwrap_or (number_given (codes "from") rows) 1) (number_given (codes "to") rows)
 
--- a journal is to be told in digits that a letter doesn't stand for, or no entry of it
+-- the first time that is to be told comes behind the last one
+abbrev pub tells_no_time : List Row → Bool
+tells_no_time rows = is_behind (unwrap_or (number_given (codes "from-time") rows) 0) (number_given (codes "to-time") rows)
+
+-- a journal is to be told in digits that a letter doesn't stand for, or no entry of it, or no time
 abbrev pub TellsNothing : List Row → Type 0
-TellsNothing rows = HasNoRadix (first_of (codes "radix") rows) ⊎ (tells_no_entry rows ≡ true)
+TellsNothing rows = HasNoRadix (first_of (codes "radix") rows) ⊎ ((tells_no_entry rows ≡ true) ⊎ (tells_no_time rows ≡ true))
 
 -- so the words of a telling of a journal ask, which is answered by this kind of error
 abbrev pub TellsInVain : CommandTask → List Row → ErrorKind → Type 0
@@ -393,7 +407,7 @@ pub record IsCheckOf (rows : List Row) (check : CheckRequest) : Type 0 where
   pub all : check.all ≡ flag_given (codes "all") rows
 
 -- this telling is asked for: of JOURNAL on FILE, from one entry to another, where the words give them, and else from the
--- first to the last, in these digits, with versions where `--versions` is given, and of the registers with these names alone
+-- first to the last, and so by their times, in these digits, with versions where `--versions` is given, and of the registers with these names alone
 -- where names are given
 pub record IsExplainOf (rows : List Row) (explain : ExplainRequest) : Type 0 where
   pub file : first_of (codes "FILE") rows ≡ Some explain.file.now
@@ -401,6 +415,9 @@ pub record IsExplainOf (rows : List Row) (explain : ExplainRequest) : Type 0 whe
   pub from : explain.from ≡ unwrap_or (number_given (codes "from") rows) 1
   pub to : explain.to ≡ number_given (codes "to") rows
   pub some_entry : tells_no_entry rows ≡ false
+  pub from_time : explain.from_time ≡ unwrap_or (number_given (codes "from-time") rows) 0
+  pub to_time : explain.to_time ≡ number_given (codes "to-time") rows
+  pub some_time : tells_no_time rows ≡ false
   pub radix : explain.radix ≡ radix_given rows
   pub versions : explain.versions ≡ flag_given (codes "versions") rows
   pub registers : first_of (codes "registers") rows ≡ option_map (λ names. names.now) explain.registers
@@ -411,11 +428,12 @@ pub record IsWavesOf (rows : List Row) (waves : WavesRequest) : Type 0 where
   pub journal : first_of (codes "JOURNAL") rows ≡ Some waves.journal.now
   pub out : first_of (codes "out") rows ≡ Some waves.out.now
 
--- this comparison is asked for: of J1 and J2 on FILE
+-- this comparison is asked for: of J1 and J2 on FILE, and of all times of each register that differs where `--all` is given
 pub record IsDiffOf (rows : List Row) (diff : DiffRequest) : Type 0 where
   pub file : first_of (codes "FILE") rows ≡ Some diff.file.now
   pub first : first_of (codes "J1") rows ≡ Some diff.first.now
   pub second : first_of (codes "J2") rows ≡ Some diff.second.now
+  pub all_times : diff.all_times ≡ flag_given (codes "all") rows
 
 -- this is asked for by what clap finds in the words of a task
 abbrev pub IsAskedBy : CommandTask → List Row → Request → Type 0

@@ -6,7 +6,7 @@ ghost use Rattle.model.specs.Runs.{last_time};
 ghost use Rattle.arguments.specs.Arguments.{IsGivenArgument, GivesRun, GivesReplay, GivesRaces, GivesCheck, GivesExplain, GivesWaves, GivesDiff, flag_parser, workers_parser, until_parser, entries_parser, seed_parser};
 ghost use Rattle.arguments.specs.Observing.{IsObserved, ObservesNothing};
 ghost use Rattle.arguments.specs.Options.{CanRun, CanSearch};
-ghost use Rattle.arguments.specs.CommandWords.{HasNoRadix, IsCheckOf, IsDiffOf, IsExplainOf, IsRacesOf, IsReplayOf, IsRunOf, IsWavesOf, at_least_two, is_behind, search_options_of, tells_no_entry, flag_given, has_two_orders, number_given, options_of, radix_given, radix_of};
+ghost use Rattle.arguments.specs.CommandWords.{HasNoRadix, IsCheckOf, IsDiffOf, IsExplainOf, IsRacesOf, IsReplayOf, IsRunOf, IsWavesOf, at_least_two, is_behind, search_options_of, tells_no_entry, tells_no_time, flag_given, has_two_orders, number_given, options_of, radix_given, radix_of};
 
 use crate::observed::{Observed, observed_by};
 use crate::request::{
@@ -108,11 +108,15 @@ pub fn check_request<'a>(matches: &ArgMatches<'a>) -> CheckRequest<'a>
 /// Where a journal is told from its begin.
 const FIRST_ENTRY: u32 = 1;
 
-/// The explanation that the words of `explain` ask for: from which entry on, and up to which, if that is given, in which digits,
-/// whether with versions, and of which registers alone, if any are given.
+/// So by its times.
+const FIRST_TIME: u64 = 0;
+
+/// The explanation that the words of `explain` ask for: from which entry and which time on, and up to which, if that is given, in which
+/// digits, whether with versions, and of which registers alone, if any are given.
 pub fn explain_request<'a>(matches: &ArgMatches<'a>) -> ExplainRequest<'a>
     requires given { GivesExplain (found_of matches.now) }
     requires some { tells_no_entry (rows_of (found_of matches.now)) ≡ false }
+    requires some_time { tells_no_time (rows_of (found_of matches.now)) ≡ false }
     ensures { IsExplainOf (rows_of (found_of matches.now)) result }
 {
     ExplainRequest {
@@ -120,6 +124,8 @@ pub fn explain_request<'a>(matches: &ArgMatches<'a>) -> ExplainRequest<'a>
         journal: given_word(matches, "JOURNAL"),
         from: given_count(matches, "from", FIRST_ENTRY),
         to: given_number(matches, "to"),
+        from_time: given_first_time(matches),
+        to_time: given_time(matches, "to-time"),
         radix: given_radix(matches),
         versions: given_flag(matches, "versions"),
         registers: given_text(matches, "registers"),
@@ -133,6 +139,25 @@ pub fn tells_no_entry(matches: &ArgMatches<'_>) -> bool
 {
     let from = given_count(matches, "from", FIRST_ENTRY);
     is_behind(from, given_number(matches, "to"))
+}
+
+/// Whether the first time that is to be told comes behind the last one.
+pub fn tells_no_time(matches: &ArgMatches<'_>) -> bool
+    requires { GivesExplain (found_of matches.now) }
+    ensures { result ≡ tells_no_time (rows_of (found_of matches.now)) }
+{
+    let from = given_first_time(matches);
+    is_time_behind(from, given_time(matches, "to-time"))
+}
+
+/// Whether a time comes behind another one, if that is given.
+fn is_time_behind(from: u64, to: Option<u64>) -> bool
+    ensures { result ≡ is_behind from to }
+{
+    match to {
+        Some(to) => to < from,
+        None => false,
+    }
 }
 
 /// Whether an entry stands behind another one, if that is given.
@@ -157,7 +182,7 @@ pub fn waves_request<'a>(matches: &ArgMatches<'a>) -> WavesRequest<'a>
     }
 }
 
-/// The comparison that the words of `diff` ask for: of which journals, on which source.
+/// The comparison that the words of `diff` ask for: of which journals, on which source, and whether of all times.
 pub fn diff_request<'a>(matches: &ArgMatches<'a>) -> DiffRequest<'a>
     requires { GivesDiff (found_of matches.now) }
     ensures { IsDiffOf (rows_of (found_of matches.now)) result }
@@ -166,6 +191,7 @@ pub fn diff_request<'a>(matches: &ArgMatches<'a>) -> DiffRequest<'a>
         file: given_word(matches, "FILE"),
         first: given_word(matches, "J1"),
         second: given_word(matches, "J2"),
+        all_times: given_flag(matches, "all"),
     }
 }
 
@@ -265,6 +291,22 @@ fn given_until(matches: &ArgMatches<'_>) -> Option<u64>
     ensures given { result ≡ number_given (codes "until") (rows_of (found_of matches.now)) }
 {
     matches.get_one::<u64>("until")
+}
+
+/// The first time that is told: 0 where none is given.
+fn given_first_time(matches: &ArgMatches<'_>) -> u64
+    requires { IsGivenArgument (found_of matches.now) (codes "from-time") until_parser }
+    ensures { result ≡ unwrap_or (number_given (codes "from-time") (rows_of (found_of matches.now))) 0 }
+{
+    given_time(matches, "from-time").unwrap_or(FIRST_TIME)
+}
+
+/// The time that is given under this name.
+fn given_time(matches: &ArgMatches<'_>, name: &str) -> Option<u64>
+    requires { IsGivenArgument (found_of matches.now) name.now until_parser }
+    ensures { result ≡ number_given name.now (rows_of (found_of matches.now)) }
+{
+    matches.get_one::<u64>(name)
 }
 
 /// In which digits values are told: binary ones where none are given.

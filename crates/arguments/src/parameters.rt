@@ -39,6 +39,8 @@ pub enum Parameter {
     Observe,
     From,
     To,
+    FromTime,
+    ToTime,
     Radix,
     Versions,
     Registers,
@@ -46,11 +48,18 @@ pub enum Parameter {
     JournalsTo,
     Out,
     All,
+    AllTimes,
 }
 
 const FROM: &str = "First entry that is told, 1 to 4294967295 [default: 1]";
 
 const TO: &str = "Last entry that is told, 1 to 4294967295 [default: the last]";
+
+const FROM_TIME: &str =
+    "Time of the first entries that are told, 0 to 281474976710656 [default: 0]";
+
+const TO_TIME: &str =
+    "Time of the last entries that are told, 0 to 281474976710656 [default: the last]";
 
 const RADIX: &str = "Digits of values: b, d or h, for binary, decimal or hex ones [default: b]";
 
@@ -65,6 +74,8 @@ const JOURNALS_TO: &str = "Where to write a journal of each text: PREFIX.1.journ
 const OUT: &str = "Where to write the value change dump";
 
 const ALL: &str = "Shows each note at each of its places";
+
+const ALL_TIMES: &str = "Shows each register that differs at each time, and not at its first alone";
 
 /// The word or option as `clap` knows it.
 pub fn argument<'a>(alloc: Global, parameter: Parameter) -> Arg<'a>
@@ -87,6 +98,8 @@ pub fn argument<'a>(alloc: Global, parameter: Parameter) -> Arg<'a>
         Parameter::Observe => option(alloc, "observe", "WHAT", OBSERVE),
         Parameter::From => count(alloc, "from", FROM),
         Parameter::To => count(alloc, "to", TO),
+        Parameter::FromTime => time(alloc, "from-time", FROM_TIME),
+        Parameter::ToTime => time(alloc, "to-time", TO_TIME),
         Parameter::Radix => option(alloc, "radix", "R", RADIX),
         Parameter::Versions => flag(alloc, "versions", VERSIONS),
         Parameter::Registers => option(alloc, "registers", "NAMES", REGISTERS),
@@ -94,6 +107,7 @@ pub fn argument<'a>(alloc: Global, parameter: Parameter) -> Arg<'a>
         Parameter::JournalsTo => option(alloc, "journals", "PREFIX", JOURNALS_TO),
         Parameter::Out => option(alloc, "out", "OUT", OUT).required(true),
         Parameter::All => flag(alloc, "all", ALL),
+        Parameter::AllTimes => flag(alloc, "all", ALL_TIMES),
     }
 }
 
@@ -162,7 +176,15 @@ fn until<'a>(alloc: Global) -> Arg<'a>
     ensures rule { rule_of result ≡ choice (codes "until") (Some until_parser) }
 {
     let help = "Last time that the run may reach, 0 to 281474976710656 [default: no limit]";
-    option(alloc, "until", "T", help).value_parser(value_parser!(u64).range(0..=281474976710656))
+    time(alloc, "until", help)
+}
+
+/// An option for a time.
+fn time<'a>(alloc: Global, name: &'a str, help: &'a str) -> Arg<'a>
+    ensures takes { FollowsRule result (rule name.entry.now false (Some until_parser)) }
+    ensures rule { rule_of result ≡ choice name.entry.now (Some until_parser) }
+{
+    option(alloc, name, "T", help).value_parser(value_parser!(u64).range(0..=281474976710656))
 }
 
 /// The option for the seed of a run, or for the first one of random orders.

@@ -19,7 +19,8 @@ use crate::command_task::CommandTask;
 use crate::commands::{missing, said_in_vain, task_matches, whole_matches};
 use crate::given::{
     check_request, diff_request, explain_request, given_observed, gives_samples, gives_two_orders,
-    has_no_radix, races_request, replay_request, run_request, tells_no_entry, waves_request,
+    has_no_radix, races_request, replay_request, run_request, tells_no_entry, tells_no_time,
+    waves_request,
 };
 use crate::observed::Observed;
 use crate::request::{NoRequest, Request};
@@ -160,7 +161,7 @@ fn races_by<'a>(
     Ok(Request::Races(races_request(matches, observed)))
 }
 
-/// The telling of a journal that words ask for, unless in digits that a letter doesn't stand for, or of no entry.
+/// The telling of a journal that words ask for, unless in digits that a letter doesn't stand for, or of no entry, or no time.
 fn asked_telling<'a>(alloc: Global, matches: &ArgMatches<'a>) -> Result<Request<'a>, Error>
     requires { GivesExplain (found_of matches.now) }
     ensures asked { IfOk result (IsAskedBy Explain (rows_of (found_of matches.now))) }
@@ -168,6 +169,7 @@ fn asked_telling<'a>(alloc: Global, matches: &ArgMatches<'a>) -> Result<Request<
 {
     unless_in_vain(alloc, has_no_radix(matches), VainWords::NoRadix)?;
     unless_in_vain(alloc, tells_no_entry(matches), VainWords::NoEntries)?;
+    unless_in_vain(alloc, tells_no_time(matches), VainWords::NoTimes)?;
     Ok(Request::Explain(explain_request(matches)))
 }
 

@@ -54,14 +54,17 @@ pub struct CheckRequest<'a> {
     pub all: bool,
 }
 
-/// `explain FILE JOURNAL`, of the entries from one number to another, which are counted from 1; in which digits values are told, and
-/// whether the versions of reads are; and of which registers alone, by their names, between which commas stand, where any are given.
+/// `explain FILE JOURNAL`, of the entries from one number to another, which are counted from 1, and from one time to another; in which digits
+/// values are told, and whether the versions of reads are; and of which registers alone, by their names, between which commas stand, where any
+/// are given.
 #[derive(Drop)]
 pub struct ExplainRequest<'a> {
     pub file: &'a str,
     pub journal: &'a str,
     pub from: u32,
     pub to: Option<u32>,
+    pub from_time: u64,
+    pub to_time: Option<u64>,
     pub radix: Radix,
     pub versions: bool,
     pub registers: Option<&'a str>,
@@ -75,12 +78,13 @@ pub struct WavesRequest<'a> {
     pub out: &'a str,
 }
 
-/// `diff FILE J1 J2`.
+/// `diff FILE J1 J2`, of each register that differs at each time or at its first alone.
 #[derive(Drop)]
 pub struct DiffRequest<'a> {
     pub file: &'a str,
     pub first: &'a str,
     pub second: &'a str,
+    pub all_times: bool,
 }
 
 /// Why there is no request: help was asked for, the words are wrong, or memory was refused. A text

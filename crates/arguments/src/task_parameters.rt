@@ -6,9 +6,9 @@ ghost use Rattle.arguments.specs.Arguments.{parameters_of};
 use crate::command_task::CommandTask;
 use crate::parameters::Parameter;
 use crate::parameters::Parameter::{
-    All, File, FirstJournal, From, Journal, JournalTo, JournalsTo, MaxEntries, MaxMemory,
-    MaxStates, MaxTexts, Observe, Out, Radix, Registers, Samples, SecondJournal, Seed, To, Until,
-    Versions, Workers,
+    All, AllTimes, File, FirstJournal, From, FromTime, Journal, JournalTo, JournalsTo, MaxEntries,
+    MaxMemory, MaxStates, MaxTexts, Observe, Out, Radix, Registers, Samples, SecondJournal, Seed,
+    To, ToTime, Until, Versions, Workers,
 };
 
 /// What the command of a task takes, in the order in which help shows it.
@@ -23,8 +23,10 @@ pub fn parameters(task: CommandTask) -> &'static [Parameter]
             Observe,
         ],
         CommandTask::Check => &[File, All],
-        CommandTask::Explain => &[File, Journal, From, To, Radix, Versions, Registers],
+        CommandTask::Explain => &[
+            File, Journal, From, To, FromTime, ToTime, Radix, Versions, Registers,
+        ],
         CommandTask::Waves => &[File, Journal, Out],
-        CommandTask::Diff => &[File, FirstJournal, SecondJournal],
+        CommandTask::Diff => &[File, FirstJournal, SecondJournal, AllTimes],
     }
 }

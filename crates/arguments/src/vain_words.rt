@@ -19,6 +19,8 @@ pub enum VainWords {
     NoRadix,
     /// They ask for the entries from one on, and up to one before it.
     NoEntries,
+    /// They ask for the entries from one time on, and up to one before it.
+    NoTimes,
 }
 
 impl VainWords {
@@ -27,7 +29,9 @@ impl VainWords {
         match self {
             VainWords::TwoOrders => CommandTask::Run,
             VainWords::NothingObserved | VainWords::SamplesObserved => CommandTask::Races,
-            VainWords::NoRadix | VainWords::NoEntries => CommandTask::Explain,
+            VainWords::NoRadix | VainWords::NoEntries | VainWords::NoTimes => {
+                CommandTask::Explain
+            }
         }
     }
 
@@ -37,9 +41,10 @@ impl VainWords {
     {
         match self {
             VainWords::TwoOrders | VainWords::SamplesObserved => ErrorKind::ArgumentConflict,
-            VainWords::NothingObserved | VainWords::NoRadix | VainWords::NoEntries => {
-                ErrorKind::InvalidValue
-            }
+            VainWords::NothingObserved
+            | VainWords::NoRadix
+            | VainWords::NoEntries
+            | VainWords::NoTimes => ErrorKind::InvalidValue,
         }
     }
 
@@ -58,6 +63,9 @@ impl VainWords {
             VainWords::NoRadix => "the argument '--radix <R>' takes b, d or h",
             VainWords::NoEntries => {
                 "the argument '--to <N>' takes no number below that of '--from <N>'"
+            }
+            VainWords::NoTimes => {
+                "the argument '--to-time <T>' takes no time before that of '--from-time <T>'"
             }
         }
     }

@@ -3,3 +3,4 @@ pub mod TimeLaws
 pub mod Given
 pub mod Follow
 pub mod Told
+pub mod FirstRows

@@ -22,6 +22,8 @@ use Rattle.differences.specs.EndsOfRuns.{HowEndsCompare, HowRunsEnd, are_alike}
 use Rattle.differences.specs.ComparedValues.{AreComparedTimes, rows_at}
 use Rattle.differences.specs.ComparedLines.{IsLinesText, IsSideText, PutsParting, PutsSide, ends_text, earlier_end_text, parting_title_text, values_text}
 use Rattle.differences.specs.Comparisons.{AreRowsUpTo, IsCompared, PutsTold, last_compared}
+use Rattle.differences.specs.ToldRows.{told_rows}
+use Rattle.differences.proofs.FirstRows.{told_any}
 
 -- why an entry isn't told
 pub untold_fault : (code : Compiled) (journal : List Entry) (f : ExplainFault) → IsFaultOfEntries code journal f → IsRunFaultOf code journal (untold f)
@@ -73,15 +75,24 @@ ends_so e t t' u u' f f' g g' q q' r r' ht hf hq hu hg hr h =
     (subst (λ (x : Bool). HowEndsCompare t' x q u g r e) hf (subst (λ (x : ℕ). HowEndsCompare x f q u g r e) ht h)))))
 
 -- the whole
-pub compared_by : (names : SourceNames) (code : Compiled) (first second : List Entry) (one other : RunSummary) (rows : List ValueDifference) (last count : ℕ) (parted : List ℕ) (r : Comparison)
-    → IsSummaryOf code first one → IsSummaryOf code second other → last ≡ min one.time other.time → AreRowsUpTo (design_of code) first second last rows → PartBehind first second count
-    → (start : List ℕ) → start ≡ [] → PutsParting names first second count start parted → PutsTold names one other rows parted r.text.items r.same → IsCompared names (design_of code) first second r
-compared_by names code first second one other rows last count parted r left right is_last found part start empty parting told =
+pub compared_by : (names : SourceNames) (code : Compiled) (all : Bool) (first second : List Entry) (one other : RunSummary) (rows kept : List ValueDifference) (last count : ℕ) (parted : List ℕ) (r : Comparison)
+    → IsSummaryOf code first one → IsSummaryOf code second other → last ≡ min one.time other.time → AreRowsUpTo (design_of code) first second last rows → kept ≡ told_rows all rows → PartBehind first second count
+    → (start : List ℕ) → start ≡ [] → PutsParting names first second count start parted → PutsTold names all one other kept parted r.text.items r.same → IsCompared names all (design_of code) first second r
+compared_by names code all first second one other rows kept last count parted r left right is_last found kept_is part start empty parting told =
     let ends_are : HowRunsEnd left.effect.state right.effect.state told.ends =
     ends_so told.ends one.time left.effect.state.time other.time right.effect.state.time one.finished left.effect.state.finished other.finished right.effect.state.finished
     one.quiet (is_quiet left.effect.state) other.quiet (is_quiet right.effect.state) left.time left.finished left.quiet right.time right.finished right.quiet told.ends_are in
     let stop : earlier_end_text one.time other.time ≡ earlier_end_text left.effect.state.time right.effect.state.time =
     ap (λ (n : ℕ). earlier_end_text n other.time) left.time ∙ ap (earlier_end_text left.effect.state.time) right.time in
+    let end_one : List ℕ = one.ending.items in
+    let end_other : List ℕ = other.ending.items in
+    let state = left.effect.state in
+    let every : List ValueDifference = flat_map (rows_at (design_of code) first second) found.times in
+    let kept_so : kept ≡ told_rows all every = kept_is ∙ ap (told_rows all) found.rows_are in
+    let ended : ends_text told.ends one.finished one.quiet one.time end_one end_other ≡ ends_text told.ends state.finished (is_quiet state) state.time end_one end_other =
+    ap (λ (b : Bool). ends_text told.ends b one.quiet one.time end_one end_other) left.finished
+    ∙ (ap (λ (b : Bool). ends_text told.ends state.finished b one.time end_one end_other) left.quiet
+    ∙ ap (λ (n : ℕ). ends_text told.ends state.finished (is_quiet state) n end_one end_other) left.time) in
     let end_is : last ≡ last_compared left.effect.state right.effect.state =
     is_last ∙ (ap (λ (n : ℕ). min n other.time) left.time ∙ ap (min left.effect.state.time) right.time) in
     let parted_is : parted ≡ parting.text = parting.put ∙ ap (λ (l : List ℕ). l ++ parting.text) empty in
@@ -107,8 +118,11 @@ compared_by names code first second one other rows last count parted r left righ
       ends = told.ends;
       ends_are = ends_are;
       text_is = told.put
-          ∙ (ap (λ (p : List ℕ). p ++ told.printed ++ ends_text told.ends one.ending.items other.ending.items ++ values_text names rows ++ earlier_end_text one.time other.time) parted_is
-          ∙ (ap (λ (l : List ValueDifference). parting.text ++ told.printed ++ ends_text told.ends one.ending.items other.ending.items ++ values_text names l ++ earlier_end_text one.time other.time) found.rows_are
-          ∙ ap (λ (s : List ℕ). parting.text ++ told.printed ++ ends_text told.ends one.ending.items other.ending.items ++ values_text names (flat_map (rows_at (design_of code) first second) found.times) ++ s) stop));
-      same_is = told.same_is ∙ ap (λ (l : List ValueDifference). told.same_lines && (are_alike told.ends && not (has_any l))) found.rows_are;
+          ∙ (ap (λ (p : List ℕ). p ++ told.printed ++ ends_text told.ends one.finished one.quiet one.time end_one end_other ++ values_text names all kept ++ earlier_end_text one.time other.time) parted_is
+          ∙ (ap (λ (e : List ℕ). parting.text ++ told.printed ++ e ++ values_text names all kept ++ earlier_end_text one.time other.time) ended
+          ∙ (ap (λ (l : List ValueDifference). parting.text ++ told.printed ++ ends_text told.ends state.finished (is_quiet state) state.time end_one end_other ++ values_text names all l ++ earlier_end_text one.time other.time) kept_so
+          ∙ ap (λ (s : List ℕ). parting.text ++ told.printed ++ ends_text told.ends state.finished (is_quiet state) state.time end_one end_other ++ values_text names all (told_rows all every) ++ s) stop)));
+      same_is = told.same_is
+          ∙ (ap (λ (l : List ValueDifference). told.same_lines && (are_alike told.ends && not (has_any l))) kept_so
+          ∙ ap (λ (b : Bool). told.same_lines && (are_alike told.ends && not b)) (told_any all every));
     }

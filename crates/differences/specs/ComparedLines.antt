@@ -17,7 +17,7 @@ use Rattle.differences.specs.declared.value_difference.ValueGiver.{ValueGiver}
 
 -- what comes behind the entries that two journals have in common, by whether each has more
 abbrev pub title_end : Bool → Bool → List ℕ
-title_end true true = codes "; then the journals part\n"
+title_end true true = codes "; then the journals part (these entries needn't be the race)\n"
 title_end false true = codes "; then the first journal ends\n"
 title_end true false = codes "; then the second journal ends\n"
 title_end false false = codes "; the journals are the same\n"
@@ -72,11 +72,26 @@ pub record PutsLinesText (one other old new : List ℕ) (same : Bool) : Type 0 w
 abbrev pub both_ends : List ℕ → List ℕ → List ℕ
 both_ends one other = codes "  first: " ++ one ++ codes "  second: " ++ other
 
--- what is said of the ends of two runs, by how they compare
-abbrev pub ends_text : EndsCompared → List ℕ → List ℕ → List ℕ
-ends_text Alike one other = codes "they end alike\n"
-ends_text AtOtherTimes one other = codes "they end alike, at other times\n" ++ both_ends one other
-ends_text Different one other = codes "they end differently\n" ++ both_ends one other
+-- what stands before the time at which two runs end alike, by whether `$finish` ends them
+abbrev pub both_end_head : Bool → List ℕ
+both_end_head true = codes "both end by $finish at time "
+both_end_head false = codes "both end at time "
+
+-- and behind it, by that and by whether no event is left
+abbrev pub both_end_tail : Bool → Bool → List ℕ
+both_end_tail true quiet = codes "\n"
+both_end_tail false true = codes ", with no event left\n"
+both_end_tail false false = codes ", with events left\n"
+
+-- that two runs end alike at a time: by `$finish`, with no event left, or with events left
+abbrev pub both_end_text : Bool → Bool → ℕ → List ℕ
+both_end_text finished quiet time = both_end_head finished ++ decimal time ++ both_end_tail finished quiet
+
+-- What is said of the ends of two runs, by how they compare, by how the first one ends, and by both ends in words.
+abbrev pub ends_text : EndsCompared → Bool → Bool → ℕ → List ℕ → List ℕ → List ℕ
+ends_text Alike finished quiet time one other = both_end_text finished quiet time
+ends_text AtOtherTimes finished quiet time one other = codes "they end alike, at other times\n" ++ both_ends one other
+ends_text Different finished quiet time one other = codes "they end differently\n" ++ both_ends one other
 
 -- who changed a register by an entry: a process by its turn, or an update
 abbrev pub done_by_text : Option ℕ → List ℕ
@@ -103,14 +118,15 @@ abbrev pub row_lines : SourceNames → List ValueDifference → List ℕ
 row_lines names [] = []
 row_lines names (d ∷ ds) = row_text names d ++ row_lines names ds
 
--- what is said before them, by whether there are any
-abbrev pub values_title : Bool → List ℕ
-values_title true = codes "registers differ when time passes\n"
-values_title false = codes "the registers have the same values whenever time passes\n"
+-- what is said before them, by whether there are any, and whether each is told at each time
+abbrev pub values_title : Bool → Bool → List ℕ
+values_title false all = codes "the registers have the same values whenever time passes\n"
+values_title true true = codes "registers differ when time passes\n"
+values_title true false = codes "registers differ when time passes: each at its first time (--all shows each time)\n"
 
 -- what is said of the registers
-abbrev pub values_text : SourceNames → List ValueDifference → List ℕ
-values_text names ds = values_title (has_any ds) ++ row_lines names ds
+abbrev pub values_text : SourceNames → Bool → List ValueDifference → List ℕ
+values_text names all ds = values_title (has_any ds) all ++ row_lines names ds
 
 -- which of two runs ends earlier, and when
 abbrev pub stop_head : ℕ → ℕ → List ℕ

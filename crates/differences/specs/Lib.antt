@@ -5,5 +5,6 @@ pub mod Givers
 pub mod ComparedValues
 pub mod Following
 pub mod EndsOfRuns
+pub mod ToldRows
 pub mod ComparedLines
 pub mod Comparisons

@@ -13,6 +13,7 @@ use crate::lines::{push_ends, push_lines, push_stop, push_title, push_values};
 use crate::parting::common_length;
 use crate::summary::{RunSummary, summary};
 use crate::times::compared_times;
+use crate::told_rows::told_rows;
 use crate::value_difference::ValueDifference;
 use design::Design;
 use explain::{EntryStyle, SourceNames, has_any, push_entry_line};
@@ -20,6 +21,16 @@ use locations::processes;
 use model::entry::Entry;
 use progress::Progress;
 use std::alloc::{AllocError, Global};
+
+/// Two journals on the design of a source, and whether each register that differs is told at each time, or at its first alone.
+#[derive(Clone, Copy)]
+pub struct ComparedJournals<'a> {
+    pub source: &'a [u8],
+    pub design: &'a Design,
+    pub first: &'a [Entry],
+    pub second: &'a [Entry],
+    pub all: bool,
+}
 
 /// What is told of two journals, and whether they are the same: they print the same lines, end alike, and have the same values
 /// whenever time passes.
@@ -92,33 +103,35 @@ fn rows_between(
     differing_values(alloc, design, first, second, &times)
 }
 
-// Puts all that is told of two runs and of the registers that differ behind where the journals part.
+// Puts all that is told of two runs and of the registers that differ, each at each time or not, behind where the journals part.
 fn push_told(
     text: &mut Vec<u8>,
     names: &SourceNames<'_>,
+    all: bool,
     one: &RunSummary,
     other: &RunSummary,
     rows: &[ValueDifference],
 ) -> Result<bool, AllocError>
-    ensures { IfOk result (PutsTold names.entry.now one.now other.now rows.now text.old.items text.new.items) }
+    ensures { IfOk result (PutsTold names.entry.now all one.now other.now rows.now text.old.items text.new.items) }
 {
     let same_lines = push_lines(text, one.lines.as_bytes(), other.lines.as_bytes())?;
     let ends = compare_ends(one, other);
     push_ends(text, ends, one, other)?;
-    push_values(text, names, rows)?;
+    push_values(text, names, all, rows)?;
     push_stop(text, one.time, other.time)?;
     Ok(same_lines & (ends.are_alike() & !has_any(rows)))
 }
 
-// Compares two journals by names.
+// Compares two journals by names, and tells each register that differs at each time or not.
 fn compare_by<P: Progress>(
     alloc: Global,
     names: &SourceNames<'_>,
     first: &[Entry],
     second: &[Entry],
+    all: bool,
     progress: &P,
 ) -> Result<Comparison, CompareFault>
-    ensures compared { IfOk result (IsCompared names.entry.now (design_of names.entry.now.design.now) first.now second.now) }
+    ensures compared { IfOk result (IsCompared names.entry.now all (design_of names.entry.now.design.now) first.now second.now) }
     ensures fault { IfErr result (IsCompareFaultOf names.entry.now.design.now first.now second.now) }
 {
     let one = match summary(alloc, names.design, first, progress) {
@@ -134,13 +147,14 @@ fn compare_by<P: Progress>(
         Ok(rows) => rows,
         Err(fault) => return Err(fault),
     };
+    let told = told_rows(alloc, all, rows)?;
     let mut text = Vec::new(alloc);
     let count = common_length(first, second);
     match push_parting(alloc, &mut text, names, first, second, count) {
         Ok(()) => {}
         Err(fault) => return Err(fault),
     }
-    let same = push_told(&mut text, names, &one, &other, &rows)?;
+    let same = push_told(&mut text, names, all, &one, &other, &told)?;
     Ok(Comparison { text, same })
 }
 
@@ -149,24 +163,28 @@ fn compare_by<P: Progress>(
 /// one that isn't taken, and why. `progress` is told how many entries are taken.
 pub fn compare<P: Progress>(
     alloc: Global,
-    source: &[u8],
-    design: &Design,
-    first: &[Entry],
-    second: &[Entry],
+    journals: ComparedJournals<'_>,
     progress: &P,
 ) -> Result<Comparison, CompareFault>
-    ensures compared { IfOk result (IsComparison source.now design.now first.now second.now) }
-    ensures fault { IfErr result (IsCompareFaultOf design.now first.now second.now) }
+    ensures compared { IfOk result (IsComparison journals.entry.source.now journals.entry.design.now journals.entry.all journals.entry.first.now journals.entry.second.now) }
+    ensures fault { IfErr result (IsCompareFaultOf journals.entry.design.now journals.entry.first.now journals.entry.second.now) }
 {
-    let found = match processes(alloc, source) {
+    let found = match processes(alloc, journals.source) {
         Ok(found) => found,
         Err(_) => return Err(CompareFault::Memory),
     };
     let names = SourceNames {
-        source,
-        design,
+        source: journals.source,
+        design: journals.design,
         processes: &found,
         style: EntryStyle::plain(),
     };
-    compare_by(alloc, &names, first, second, progress)
+    compare_by(
+        alloc,
+        &names,
+        journals.first,
+        journals.second,
+        journals.all,
+        progress,
+    )
 }

@@ -1,7 +1,7 @@
 //! The lines on two journals.
 
 ghost use Rattle.std.specs.Prelude.{◌≡◌, ◌++◌, IfOk, OnOk, Some};
-ghost use Rattle.differences.specs.ComparedLines.{PutsLinesText, both_ends, different_text, done_by_text, ends_text, given_text, giver_text, row_lines, row_text, stop_head, earlier_end_text, title_end, parting_title_text, values_text, values_title};
+ghost use Rattle.differences.specs.ComparedLines.{PutsLinesText, both_end_head, both_end_tail, both_end_text, both_ends, different_text, done_by_text, ends_text, given_text, giver_text, row_lines, row_text, stop_head, earlier_end_text, title_end, parting_title_text, values_text, values_title};
 
 use crate::ends::EndsCompared;
 use crate::summary::RunSummary;
@@ -16,7 +16,7 @@ fn title_end(first: bool, second: bool) -> &'static str
     ensures { result.now ≡ title_end first second }
 {
     match (first, second) {
-        (true, true) => "; then the journals part\n",
+        (true, true) => "; then the journals part (these entries needn't be the race)\n",
         (false, true) => "; then the first journal ends\n",
         (true, false) => "; then the second journal ends\n",
         (false, false) => "; the journals are the same\n",
@@ -82,6 +82,35 @@ fn push_both_ends(
     text.extend_from_slice(other.ending.as_slice())
 }
 
+// What stands before the time at which two runs end alike, by whether `$finish` ends them (17.4.1).
+fn both_end_head(finished: bool) -> &'static [u8]
+    ensures { result.now ≡ both_end_head finished }
+{
+    match finished {
+        true => b"both end by $finish at time ",
+        false => b"both end at time ",
+    }
+}
+
+// What stands behind that time, by that and by whether no event is left.
+fn both_end_tail(finished: bool, quiet: bool) -> &'static [u8]
+    ensures { result.now ≡ both_end_tail finished quiet }
+{
+    match (finished, quiet) {
+        (true, _) => b"\n",
+        (false, true) => b", with no event left\n",
+        (false, false) => b", with events left\n",
+    }
+}
+
+// Puts behind a text that two runs end alike, by how one of them does.
+fn push_both_end(text: &mut Vec<u8>, one: &RunSummary) -> Result<(), AllocError>
+    ensures { OnOk result (text.new.items ≡ text.old.items ++ both_end_text one.now.finished one.now.quiet one.now.time) }
+{
+    push_labelled(text, both_end_head(one.finished), one.time)?;
+    text.extend_from_slice(both_end_tail(one.finished, one.quiet))
+}
+
 /// Puts what is said of the ends of two runs behind a text, by how they compare.
 pub(crate) fn push_ends(
     text: &mut Vec<u8>,
@@ -89,10 +118,10 @@ pub(crate) fn push_ends(
     one: &RunSummary,
     other: &RunSummary,
 ) -> Result<(), AllocError>
-    ensures { OnOk result (text.new.items ≡ text.old.items ++ ends_text ends one.now.ending.items other.now.ending.items) }
+    ensures { OnOk result (text.new.items ≡ text.old.items ++ ends_text ends one.now.finished one.now.quiet one.now.time one.now.ending.items other.now.ending.items) }
 {
     match ends {
-        EndsCompared::Alike => text.extend_from_slice(b"they end alike\n"),
+        EndsCompared::Alike => push_both_end(text, one),
         EndsCompared::AtOtherTimes => {
             push_both_ends(text, b"they end alike, at other times\n", one, other)
         }
@@ -169,25 +198,29 @@ fn push_rows(
     Ok(())
 }
 
-// Puts what is said before the registers behind a text.
-fn values_title(differ: bool) -> &'static str
-    ensures { result.now ≡ values_title differ }
+// What is said before the registers, by whether any differ, and whether each is told at each time.
+fn values_title(differ: bool, all: bool) -> &'static str
+    ensures { result.now ≡ values_title differ all }
 {
-    match differ {
-        true => "registers differ when time passes\n",
-        false => "the registers have the same values whenever time passes\n",
+    match (differ, all) {
+        (false, _) => "the registers have the same values whenever time passes\n",
+        (true, true) => "registers differ when time passes\n",
+        (true, false) => {
+            "registers differ when time passes: each at its first time (--all shows each time)\n"
+        }
     }
 }
 
-/// Puts what is said of the registers behind a text.
+/// Puts what is said of the registers that differ behind a text, each at each time or not.
 pub(crate) fn push_values(
     text: &mut Vec<u8>,
     names: &SourceNames<'_>,
+    all: bool,
     rows: &[ValueDifference],
 ) -> Result<(), AllocError>
-    ensures { OnOk result (text.new.items ≡ text.old.items ++ values_text names.entry.now rows.now) }
+    ensures { OnOk result (text.new.items ≡ text.old.items ++ values_text names.entry.now all rows.now) }
 {
-    text.extend_from_slice(values_title(has_any(rows)).as_bytes())?;
+    text.extend_from_slice(values_title(has_any(rows), all).as_bytes())?;
     push_rows(text, names, rows)
 }
 

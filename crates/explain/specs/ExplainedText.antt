@@ -21,22 +21,36 @@ use Rattle.explain.specs.ExplainedEnd.{IsEndText, refusal_text}
 abbrev pub told_design : ExplanationOptions → Design
 told_design t = design_of t.names.design.now
 
--- how a journal is told: from this entry on, to this one or the last that there may be, in this style
-abbrev pub presentation_of : ℕ → Option ℕ → EntryStyle → Presentation
-presentation_of from to style = record { from = from; to = unwrap_or to 18446744073709551615; style = style }
+-- how a journal is told: from this entry on, to this one or the last that there may be, so by their times, in this style
+abbrev pub presentation_of : ℕ → Option ℕ → ℕ → Option ℕ → EntryStyle → Presentation
+presentation_of from to from_time to_time style = record {
+  from = from;
+  to = unwrap_or to 18446744073709551615;
+  from_time = from_time;
+  to_time = unwrap_or to_time 18446744073709551615;
+  style = style;
+}
 
 -- whether a presentation has an entry with this number
-abbrev pub has_entry : Presentation → ℕ → Bool
-has_entry presentation number = nat_le presentation.from number && nat_le number presentation.to
+abbrev pub shows_number : Presentation → ℕ → Bool
+shows_number presentation number = nat_le presentation.from number && nat_le number presentation.to
+
+-- whether it has entries of this time
+abbrev pub shows_time : Presentation → ℕ → Bool
+shows_time presentation time = nat_le presentation.from_time time && nat_le time presentation.to_time
+
+-- whether it has an entry with this number, behind which it is this time
+abbrev pub has_entry : Presentation → ℕ → ℕ → Bool
+has_entry presentation number time = shows_number presentation number && shows_time presentation time
 
 -- a line, where it is shown
 abbrev pub shown_text : Bool → List ℕ → List ℕ
 shown_text true line = line
 shown_text false line = []
 
--- whether an entry with this number is told: the presentation has it, and it has to do with the registers that are asked for, if any are
+-- whether an entry with this number is told: the presentation has it, by its number and its time, and it has to do with the registers that are asked for, if any are
 abbrev pub is_told : ExplanationOptions → ℕ → Account → Bool
-is_told t number a = has_entry t.presentation number && is_wanted (wanted_registers t.registers) a
+is_told t number a = has_entry t.presentation number a.time && is_wanted (wanted_registers t.registers) a
 
 -- the line of an entry, where it is told
 abbrev pub told_text : ExplanationOptions → ℕ → Entry → Account → Bool → List ℕ

@@ -244,7 +244,8 @@ AreKept-first {M} {N} runs HasKey new p first_node visit lineage one told none w
       };
     }
 
-Any-split : {X : Type 0} (P : X → Type 0) (xs : List X) (x : X) → Any P (xs ++ x ∷ []) → Any P xs ⊎ P x
+-- one of some elements with one more is one of them, or that one
+pub Any-split : {X : Type 0} (P : X → Type 0) (xs : List X) (x : X) → Any P (xs ++ x ∷ []) → Any P xs ⊎ P x
 Any-split P xs x at = elim (cases_lt at.0 (length xs)) [
   | inl low ↦ inl (at.0, at.1, low, sym (get_or_append_left xs (x ∷ []) at.1 at.0 low) ∙ at.3, at.4)
   | inr high ↦

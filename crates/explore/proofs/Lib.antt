@@ -4,6 +4,7 @@ pub mod Counting
 pub mod Edges
 pub mod Growing
 pub mod Keeping
+pub mod Open
 pub mod TextEdges
 pub mod Places
 pub mod Rows

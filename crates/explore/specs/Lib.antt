@@ -8,5 +8,6 @@ pub mod NumberedTexts
 pub mod Lineage
 pub mod Links
 pub mod Outcome
+pub mod Reach
 pub mod Placed
 pub mod Visited

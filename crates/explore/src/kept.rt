@@ -4,6 +4,7 @@ ghost use Rattle.std.specs.List.{All, Any};
 ghost use Rattle.explore.specs.Search.{IsSuccessor};
 ghost use Rattle.explore.specs.NumberedTexts.{texts};
 ghost use Rattle.explore.specs.Lineage.{ways};
+ghost use Rattle.explore.specs.Reach.{AreTimed};
 ghost use Rattle.explore.specs.SearchKept.{AreKept, AreKeptFurther, IsText, LeadsOn};
 
 use crate::again::{Nodes, most_newest};
@@ -68,6 +69,7 @@ pub(crate) fn first<O: Orders>(
     ensures one { IfOk result (λ kept. length kept.pending.items ≡ 1) }
     ensures unmarked { IfOk result (λ kept. kept.links.may_end.items ≡ true ∷ []) }
     ensures waits { IfOk result (λ kept. Any (λ reached. reached.number ≡ 0) kept.pending.items) }
+    ensures timed { IfOk result (λ kept. AreTimed (O.runs scope.entry.orders.now) (O.time_of scope.entry.orders.now) (ways kept.lineage) kept.links.times.items) }
 {
     let alloc = scope.alloc;
     let node = scope.orders.start(alloc)?;
@@ -76,7 +78,8 @@ pub(crate) fn first<O: Orders>(
     let mut visited = Visited::new(alloc);
     let _there = visited.add(0, key.as_slice())?;
     let mut links = Links::new(alloc);
-    links.add()?;
+    let time = scope.orders.time(&node);
+    links.add(time)?;
     let mut pending = Vec::new(alloc);
     pending.push(Reached { number: 0, text: 0 })?;
     let weight = scope.orders.weight(&node);
@@ -111,7 +114,9 @@ fn follow<O: Orders>(
     requires from { IsText (O.runs scope.orders.now) (ways kept.old.lineage) (texts kept.old.texts) from }
     requires next { IsSuccessor (O.runs scope.orders.now) (get_or (ways kept.old.lineage) from.number []) next }
     requires room { length (ways kept.old.lineage) ≤ scope.bounds.nodes }
+    requires timed { AreTimed (O.runs scope.orders.now) (O.time_of scope.orders.now) (ways kept.old.lineage) kept.old.links.times.items }
     ensures further { OnOk result (AreKeptFurther (O.runs scope.entry.orders.now) (O.has_key scope.entry.orders.now) scope.entry.bounds.nodes kept.old kept.new) }
+    ensures timed { OnOk result (AreTimed (O.runs scope.entry.orders.now) (O.time_of scope.entry.orders.now) (ways kept.new.lineage) kept.new.links.times.items) }
     ensures full { IfOk result (λ there. there ≡ false → length (ways kept.new.lineage) ≡ scope.entry.bounds.nodes) }
     ensures leads { IfOk result (λ there. IsTrue there → LeadsOn (O.runs scope.entry.orders.now) kept.new from.number (get_or (ways kept.old.lineage) from.number [] ++ next.moves.items)) }
 {
@@ -124,6 +129,7 @@ fn follow<O: Orders>(
     scope.orders.key(room, &mut kept.key, &node)?;
     let bytes = kept.key.as_slice();
     let weight = scope.orders.weight(&node);
+    let time = scope.orders.time(&node);
     let number = kept.lineage.len();
     if number >= scope.bounds.nodes {
         let seen = kept.visited.find(text, bytes)?;
@@ -136,7 +142,7 @@ fn follow<O: Orders>(
         return Ok(true);
     }
     kept.lineage.push(from.number, &moves)?;
-    kept.links.add()?;
+    kept.links.add(time)?;
     let placed = Placed {
         number,
         node,
@@ -160,7 +166,9 @@ pub(crate) fn follow_all<O: Orders>(
     requires from { IsText (O.runs scope.orders.now) (ways kept.old.lineage) (texts kept.old.texts) from }
     requires successors { All (IsSuccessor (O.runs scope.orders.now) (get_or (ways kept.old.lineage) from.number [])) successors.items }
     requires room { length (ways kept.old.lineage) ≤ scope.bounds.nodes }
+    requires timed { AreTimed (O.runs scope.orders.now) (O.time_of scope.orders.now) (ways kept.old.lineage) kept.old.links.times.items }
     ensures further { OnOk result (AreKeptFurther (O.runs scope.entry.orders.now) (O.has_key scope.entry.orders.now) scope.entry.bounds.nodes kept.old kept.new) }
+    ensures timed { OnOk result (AreTimed (O.runs scope.entry.orders.now) (O.time_of scope.entry.orders.now) (ways kept.new.lineage) kept.new.links.times.items) }
     ensures full { IfOk result (λ all. all ≡ false → length (ways kept.new.lineage) ≡ scope.entry.bounds.nodes) }
     ensures leads { IfOk result (λ all. IsTrue all → All (λ next. LeadsOn (O.runs scope.entry.orders.now) kept.new from.number (get_or (ways kept.old.lineage) from.number [] ++ next.moves.items)) successors.items) }
 {

@@ -10,11 +10,13 @@
 //! 4. Where a way ends, its text and end are shown, with the moves of the whole run, unless they are there already.
 //! 5. The search is over when the stack is empty. If nothing was left out on the way, each text and end of every run is
 //!    shown: that is the contract of `explore`.
-//! 6. What is known of each node besides is whether a run may come to an end at it, and the edges to nodes that were there
+//! 6. What is known of each node besides is its time, whether a run may come to an end at it, and the edges to nodes that were there
 //!    before (`links`). From these a node is found from which no end is reached, where there is one (`endless`).
+//! 7. Where something was left out, it is told before which time nothing was (`reach`), and at which time most ways led on (`choices`).
 #![tactic(auto)]
 
 mod again;
+mod choices;
 mod endless;
 mod kept;
 mod line_groups;
@@ -22,6 +24,7 @@ mod lineage;
 mod links;
 mod orders;
 mod pieces;
+mod reach;
 mod recent;
 mod search;
 mod show;
@@ -73,6 +76,12 @@ pub struct Explored<M, E> {
     pub nodes: usize,
     /// The moves of a run that was reached and from which no end is reached, where one is known.
     pub endless: Option<Vec<M>>,
+    /// A time before which nothing was left out: each node of an earlier time that was reached was followed. None where nothing was
+    /// left out at all, and where memory was refused.
+    pub followed_before: Option<u64>,
+    /// The moves of a run to a node from which several ways lead on: of the time at which most do, the first from which most do. None
+    /// where none do, and where memory was refused.
+    pub widest: Option<Vec<M>>,
 }
 
 /// What a run showed: its text, how it ended, and its moves.

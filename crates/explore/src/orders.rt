@@ -28,6 +28,9 @@ pub trait Orders {
     /// These bytes are the key of a node.
     ghost has_key: { Self → Self.Node → List ℕ → Type 0 };
 
+    /// The time at which a node stands.
+    ghost time_of: { Self → Self.Node → ℕ };
+
     /// The node at which each run starts.
     fn start(&self, alloc: Global) -> Result<Self::Node, AllocError>
         ensures { IfOk result (λ node. (runs self.now).Stands node []) };
@@ -56,6 +59,10 @@ pub trait Orders {
         node: &Self::Node,
     ) -> Result<(), AllocError>
         ensures { OnOk result (has_key self.now node.now key.new.items) };
+
+    /// The time at which a node stands.
+    fn time(&self, node: &Self::Node) -> u64
+        ensures { result ≡ time_of self.now node.now };
 
     /// About how many bytes a node takes.
     fn weight(&self, node: &Self::Node) -> usize;

@@ -4,14 +4,17 @@ ghost use Rattle.std.specs.List.{All, AllPairs, Any};
 ghost use Rattle.sharing.specs.Parts.{Extends};
 ghost use Rattle.explore.specs.SearchKept.{AreContinued, AreKept, Grows, IsPendingNode};
 ghost use Rattle.explore.specs.Search.{AreAllShown, AreCounted, AreDistinct, IsEndless, IsFollowed, IsOfRun, IsShown, Serves};
-ghost use Rattle.explore.specs.Outcome.{stopped_of};
+ghost use Rattle.explore.specs.Outcome.{followed_before_of, stopped_of};
+ghost use Rattle.explore.specs.Reach.{AreFollowedBefore, AreTimed, HasNode, earliest};
 ghost use Rattle.explore.specs.NumberedTexts.{texts};
 ghost use Rattle.explore.specs.Lineage.{ways};
 ghost use Rattle.explore.specs.declared.stopped.Stopped.TheVariants as stop;
 
 use crate::again::node_at;
+use crate::choices::{ChoiceCounts, widest_way};
 use crate::endless::find_endless;
 use crate::kept::{KeptNodes, Pending, first, follow_all};
+use crate::reach::{earliest, earliest_left, earliest_pending};
 use crate::show::{ReachedRun, show_all};
 use crate::{Bounds, Expanded, Explored, Orders, SearchScope, Shown, Stopped};
 use progress::{HowFar, Progress};
@@ -20,11 +23,14 @@ use std::alloc::{AllocError, Global};
 // As many nodes as are reached from one telling to the next, or a few more.
 const STRIDE: usize = 1024;
 
-/// How a search came to its end: why it may have left something out, and the moves of a run from which no end is reached.
+/// How a search came to its end: why it may have left something out, the moves of a run from which no end is reached, before which time
+/// nothing was left out, and the moves of the run to the node from which most ways lead.
 #[derive(Drop)]
 struct SearchOutcome<M> {
     stopped: Option<Stopped>,
     endless: Option<Vec<M>>,
+    followed_before: Option<u64>,
+    widest: Option<Vec<M>>,
 }
 
 /// Why an expansion left something out: a node, since there are as many as there may be, or a way that wasn't followed.
@@ -75,13 +81,14 @@ fn earlier(one: Option<Stopped>, other: Option<Stopped>) -> Option<Stopped>
     }
 }
 
-/// Expands a node: shows its ways that have come to an end, and keeps the nodes that the others lead to. The answer is
+/// Expands a node: shows its ways that have come to an end, keeps the nodes that the others lead to, and counts these ways. The answer is
 /// why something was left out. Where that is a text, the nodes aren't kept.
 fn expand_node<O: Orders>(
     scope: SearchScope<'_, O>,
     room: &mut O::Room,
     kept: &mut KeptNodes<O::Node, O::Move>,
     shown: &mut Vec<Shown<O::Move, O::End>>,
+    choices: &mut ChoiceCounts,
     at: Pending<O::Node>,
 ) -> Result<Option<Stopped>, AllocError>
     requires kept { AreKept (O.runs scope.orders.now) (O.has_key scope.orders.now) kept.old }
@@ -91,6 +98,7 @@ fn expand_node<O: Orders>(
     requires distinct { AllPairs AreDistinct shown.old.items }
     requires few { length shown.old.items ≤ scope.bounds.shown }
     requires at { IsPendingNode (O.runs scope.orders.now) (ways kept.old.lineage) (texts kept.old.texts) at }
+    requires timed { AreTimed (O.runs scope.orders.now) (O.time_of scope.orders.now) (ways kept.old.lineage) kept.old.links.times.items }
     ensures sound { All (IsOfRun (O.runs scope.entry.orders.now)) shown.new.items }
     ensures distinct { AllPairs AreDistinct shown.new.items }
     ensures shown { Extends shown.old.items shown.new.items }
@@ -102,6 +110,7 @@ fn expand_node<O: Orders>(
     ensures nodes { IfOk result (λ left. left ≡ Some stop.Nodes → length (ways kept.new.lineage) ≡ scope.entry.bounds.nodes) }
     ensures followed { IfOk result (λ left. left ≡ None → IsFollowed (O.runs scope.entry.orders.now) (IsShown shown.new.items) (Serves (O.runs scope.entry.orders.now)) (ways kept.new.lineage) (get_or (ways kept.old.lineage) at.reached.number [])) }
     ensures continued { OnOk result (AreContinued (O.runs scope.entry.orders.now) kept.new) }
+    ensures timed { OnOk result (AreTimed (O.runs scope.entry.orders.now) (O.time_of scope.entry.orders.now) (ways kept.new.lineage) kept.new.links.times.items) }
 {
     let Pending { node, reached } = at;
     let Expanded {
@@ -110,6 +119,8 @@ fn expand_node<O: Orders>(
         whole,
     } = scope.orders.expand(scope.alloc, room, node)?;
     let goes_on = ended.is_empty();
+    let time = kept.links.time_at(reached.number);
+    choices.add(time, reached.number, successors.len());
     let run = ReachedRun {
         lineage: &kept.lineage,
         texts: &kept.texts,
@@ -125,11 +136,21 @@ fn expand_node<O: Orders>(
     Ok(left)
 }
 
-/// Tells how many nodes were reached, once for each stride of them.
-fn tell_nodes<P: Progress>(progress: &P, before: usize, now: usize) {
+/// Tells how many nodes were reached, and the time of the one that was expanded last, once for each stride of them.
+fn tell_nodes<P: Progress>(progress: &P, before: usize, now: usize, time: u64) {
     if before / STRIDE != now / STRIDE {
-        progress.tell(HowFar::States { states: now as u64 });
+        let states = now as u64;
+        progress.tell(HowFar::States { states, time });
     }
+}
+
+/// The least time of nodes that are pending, and of one at this time and others, which were left open.
+fn earliest_open<N: Drop, M: Copy>(kept: &KeptNodes<N, M>, told: Option<u64>, time: u64) -> u64
+    ensures told { result ≤ earliest told time }
+    ensures pending { All (λ p. result ≤ get_or kept.now.links.times.items p.number 0) kept.now.pending.items }
+{
+    let first = earliest(told, time);
+    earliest_pending(&kept.links, kept.pending.as_slice(), first)
 }
 
 /// Searches from the node at the start of the runs on, shows what the runs print and how they end, and counts the nodes that are kept.
@@ -148,6 +169,7 @@ fn search_from<O: Orders, P: Progress>(
     requires continued { AreContinued (O.runs scope.orders.now) kept.old }
     requires ways { ways kept.old.lineage ≡ [] ∷ [] }
     requires waits { Any (λ p. p.number ≡ 0) kept.old.pending.items }
+    requires timed { AreTimed (O.runs scope.orders.now) (O.time_of scope.orders.now) (ways kept.old.lineage) kept.old.links.times.items }
     ensures few { nodes.new ≤ scope.entry.bounds.nodes }
     ensures few_shown { length shown.new.items ≤ scope.entry.bounds.shown }
     ensures sound { All (IsOfRun (O.runs scope.entry.orders.now)) shown.new.items }
@@ -157,33 +179,49 @@ fn search_from<O: Orders, P: Progress>(
     ensures full { stopped_of result ≡ Some stop.Shown → length shown.new.items ≡ scope.entry.bounds.shown }
     ensures counted { AreCounted (O.runs scope.entry.orders.now) shown.new.items (stopped_of result) nodes.new }
     ensures endless { IfOk result (λ outcome. IfSome outcome.endless (λ moves. IsEndless (O.runs scope.entry.orders.now) moves.items)) }
+    ensures before { (stopped_of result ≡ Some stop.Memory) ⊎ AreFollowedBefore (O.runs scope.entry.orders.now) (O.time_of scope.entry.orders.now) shown.new.items (followed_before_of result) }
+    ensures widest { IfOk result (λ outcome. IfSome outcome.widest (λ moves. HasNode (O.runs scope.entry.orders.now) moves.items)) }
 {
     *nodes = kept.lineage.len();
+    let mut choices = ChoiceCounts::new(scope.alloc);
     let mut stopped = None;
+    let mut since = None;
     while let Some(reached) = kept.pending.pop() {
+        let number = reached.number;
+        let time = kept.links.time_at(number);
         if kept.bytes() > scope.bounds.bytes {
             return Ok(SearchOutcome {
                 stopped: Some(Stopped::Bytes),
                 endless: None,
+                followed_before: Some(earliest_open(kept, since, time)),
+                widest: widest_way(scope.alloc, &kept.lineage, &choices),
             });
         }
-        let number = reached.number;
         let node = node_at(scope, room, &kept.lineage, &mut kept.nodes, number)?;
         let at = Pending { node, reached };
-        let left = expand_node(scope, room, kept, shown, at)?;
+        let left = expand_node(scope, room, kept, shown, &mut choices, at)?;
         let count = kept.lineage.len();
-        tell_nodes(progress, *nodes, count);
+        tell_nodes(progress, *nodes, count, time);
         *nodes = count;
         if is_full(left) {
             return Ok(SearchOutcome {
                 stopped: left,
                 endless: None,
+                followed_before: Some(earliest_open(kept, since, time)),
+                widest: widest_way(scope.alloc, &kept.lineage, &choices),
             });
         }
         stopped = earlier(stopped, left);
+        since = earliest_left(since, left, time);
     }
     let endless = find_endless(scope.alloc, &kept.lineage, &kept.links)?;
-    Ok(SearchOutcome { stopped, endless })
+    let widest = widest_way(scope.alloc, &kept.lineage, &choices);
+    Ok(SearchOutcome {
+        stopped,
+        endless,
+        followed_before: since,
+        widest,
+    })
 }
 
 /// Shows what the runs print and how they end, and counts the nodes that are kept.
@@ -205,6 +243,8 @@ fn search<O: Orders, P: Progress>(
     ensures full { stopped_of result ≡ Some stop.Shown → length shown.new.items ≡ scope.entry.bounds.shown }
     ensures counted { AreCounted (O.runs scope.entry.orders.now) shown.new.items (stopped_of result) nodes.new }
     ensures endless { IfOk result (λ outcome. IfSome outcome.endless (λ moves. IsEndless (O.runs scope.entry.orders.now) moves.items)) }
+    ensures before { (stopped_of result ≡ Some stop.Memory) ⊎ AreFollowedBefore (O.runs scope.entry.orders.now) (O.time_of scope.entry.orders.now) shown.new.items (followed_before_of result) }
+    ensures widest { IfOk result (λ outcome. IfSome outcome.widest (λ moves. HasNode (O.runs scope.entry.orders.now) moves.items)) }
 {
     let mut room = scope.orders.room(scope.alloc);
     let mut kept = first(scope, &mut room)?;
@@ -223,6 +263,9 @@ fn search<O: Orders, P: Progress>(
 ///
 /// Where it came to its own end it looks for a run from which no end is reached. Nodes that weren't expanded, or not whole,
 /// count as such where a run may end.
+///
+/// Unless memory was refused, it tells a time before which nothing was left out, if something was: the least of those of nodes that weren't
+/// expanded, or from which something was left out.
 pub fn explore<O: Orders, P: Progress>(
     alloc: Global,
     orders: &O,
@@ -239,6 +282,8 @@ pub fn explore<O: Orders, P: Progress>(
     ensures full { result.stopped ≡ Some stop.Shown → length result.shown.items ≡ bounds.shown }
     ensures counted { AreCounted (O.runs orders.now) result.shown.items result.stopped result.nodes }
     ensures endless { IfSome result.endless (λ moves. IsEndless (O.runs orders.now) moves.items) }
+    ensures before { (result.stopped ≡ Some stop.Memory) ⊎ AreFollowedBefore (O.runs orders.now) (O.time_of orders.now) result.shown.items result.followed_before }
+    ensures widest { IfSome result.widest (λ moves. HasNode (O.runs orders.now) moves.items) }
 {
     let mut shown = Vec::new(alloc);
     let mut nodes = 0;
@@ -248,17 +293,28 @@ pub fn explore<O: Orders, P: Progress>(
         bounds,
     };
     match search(scope, &mut shown, &mut nodes, progress) {
-        Ok(SearchOutcome { stopped, endless }) => Explored {
+        Ok(
+            SearchOutcome {
+                stopped,
+                endless,
+                followed_before,
+                widest,
+            },
+        ) => Explored {
             shown,
             stopped,
             nodes,
             endless,
+            followed_before,
+            widest,
         },
         Err(_) => Explored {
             shown,
             stopped: Some(Stopped::Memory),
             nodes,
             endless: None,
+            followed_before: None,
+            widest: None,
         },
     }
 }

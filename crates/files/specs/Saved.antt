@@ -86,6 +86,11 @@ abbrev pub SavesAllWhereAsked : Option (List MadeFile) → Option (List MadeFile
 SavesAllWhereAsked old new None journals = KeepsFiles old new
 SavesAllWhereAsked old new (Some prefix) journals = AddsFiles old new (journals_from prefix 1 journals)
 
+-- so it is of so many of the first journals
+abbrev pub SavesFirstWhereAsked : Option (List MadeFile) → Option (List MadeFile) → Option (List ℕ) → ℕ → List (List Entry) → Type 0
+SavesFirstWhereAsked old new None count journals = KeepsFiles old new
+SavesFirstWhereAsked old new (Some prefix) count journals = AddsFiles old new (journals_from prefix 1 (take count journals))
+
 -- the known files grew by a beginning of such journals
 abbrev pub AddsBeginning : Option (List MadeFile) → Option (List MadeFile) → List ℕ → List (List Entry) → Type 0
 AddsBeginning old new prefix journals = (count : ℕ) × AddsFiles old new (journals_from prefix 1 (take count journals))

@@ -92,7 +92,9 @@ fn line_of(alloc: Global, how_far: HowFar) -> Result<String, AllocError> {
         HowFar::Entries { entries, time } => {
             format!(in alloc; "\rvsimtx: {entries} entries, time {time}\x1b[K")
         }
-        HowFar::States { states } => format!(in alloc; "\rvsimtx: {states} states\x1b[K"),
+        HowFar::States { states, time } => {
+            format!(in alloc; "\rvsimtx: {states} states, time {time}\x1b[K")
+        }
         HowFar::Runs { made: 1 } => format!(in alloc; "\rvsimtx: 1 run\x1b[K"),
         HowFar::Runs { made } => format!(in alloc; "\rvsimtx: {made} runs\x1b[K"),
     }

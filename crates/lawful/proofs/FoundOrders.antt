@@ -17,7 +17,7 @@ use Rattle.explore.specs.SearchedRuns.{Runs}
 use Rattle.explore.specs.Search.{AreAllShown}
 use Rattle.loose.specs.declared.transition.LooseTransition.{LooseTransition}
 use Rattle.lawful.specs.declared.node.LooseNode.{LooseNode}
-use Rattle.lawful.specs.Journals.{JournalRelation, HasLawfulJournal, texts_and_ends, memory_or, IsStoppedBy, IsFoundLawfully}
+use Rattle.lawful.specs.Journals.{JournalRelation, HasLawfulJournal, texts_and_ends, memory_or, IsStoppedBy, IsFoundLawfully, IsLedJournal}
 use Rattle.lawful.specs.LawfulOrders.{AreFoundLoosely, AreLawfulOrders}
 use Rattle.lawful.proofs.ShownLawfully.{as_many_shown, still_distinct, first_distinct, no_longer, is_whole}
 
@@ -88,12 +88,13 @@ are_lawful_orders {End} IsJournal AreAll runs design limits bounds loosely found
           let whole : part ≡ loosely.shown.items = is_whole part first.rest loosely.shown.items first.split (first.all all) in
           many ∙ (ap length whole ∙ searched.shown_full (sym same ∙ full));
       never_ends = is.never_ends;
+      widest_led = is.widest_led;
     }
 
 -- where nothing was found, and the search says that it was stopped for want of memory
-pub nothing_is_found : {End : Type 0} (IsJournal : JournalRelation End) (AreAll : List (List ℕ × End) → Type 0) (design : Design) (limits : Limits) (bounds : Bounds) (found : Explored Entry End) → found.shown.items ≡ [] → found.stopped ≡ Some stop.Memory → found.nodes ≡ 0 → found.endless ≡ None
+pub nothing_is_found : {End : Type 0} (IsJournal : JournalRelation End) (AreAll : List (List ℕ × End) → Type 0) (design : Design) (limits : Limits) (bounds : Bounds) (found : Explored Entry End) → found.shown.items ≡ [] → found.stopped ≡ Some stop.Memory → found.nodes ≡ 0 → found.endless ≡ None → found.widest ≡ None
     → AreLawfulOrders IsJournal AreAll design limits bounds found
-nothing_is_found {End} IsJournal AreAll design limits bounds found none stopped nodes endless =
+nothing_is_found {End} IsJournal AreAll design limits bounds found none stopped nodes endless widest =
     let few : length found.shown.items ≡ 0 = ap length none in
     record {
       journals = subst (All (HasLawfulJournal IsJournal)) (sym none) (All-nil (HasLawfulJournal IsJournal));
@@ -104,4 +105,5 @@ nothing_is_found {End} IsJournal AreAll design limits bounds found none stopped 
       nodes_full = λ is. absurd (memory_not_nodes (sym stopped ∙ is));
       shown_full = λ is. absurd (memory_not_shown (sym stopped ∙ is));
       never_ends = subst (λ (o : Option (Vec Entry)). IfSome o (λ journal. IsEndlessJournal design limits journal.items)) (sym endless) tt;
+      widest_led = subst (λ (o : Option (Vec Entry)). IfSome o (λ journal. IsLedJournal design limits journal.items)) (sym widest) tt;
     }

@@ -5,7 +5,8 @@ use Rattle.std.specs.List.{All, Any}
 use Rattle.model.specs.declared.entry.Entry.{Entry}
 use Rattle.model.specs.declared.end.Limits.{Limits}
 use Rattle.model.specs.Design.{Design}
-use Rattle.model.specs.Texts.{IsEndlessJournal}
+use Rattle.model.specs.Runs.{Effect}
+use Rattle.model.specs.Texts.{ComesOf, IsEndlessJournal, IsWithinLimits}
 use Rattle.explore.specs.declared.Explored.{Explored}
 use Rattle.explore.specs.declared.Shown.{Shown}
 use Rattle.explore.specs.declared.stopped.Stopped.{Stopped}
@@ -66,8 +67,15 @@ memory_or (Some stop.Memory) = Some stop.Memory
 abbrev pub IsStoppedBy : Option Stopped → Bool → Option Stopped → Type 0
 IsStoppedBy before whole stopped = ((whole ≡ true) × (stopped ≡ before)) ⊎ (stopped ≡ memory_or before)
 
+-- this journal is lawful and in time, and it has no more entries than it may have
+pub record IsLedJournal (design : Design) (limits : Limits) (journal : List Entry) : Type 0 where
+  pub effect : Effect
+  pub lawful : ComesOf design limits journal effect
+  pub within : IsWithinLimits limits journal
+
 -- A search found the same texts and ends, or the first of them, with a lawful journal of each, in as many nodes. It stopped for the same
--- reason where none was left out. A journal from which no run is said to come to an end is such a lawful one.
+-- reason where none was left out. A journal from which no run is said to come to an end is such a lawful one, and the one that is said to
+-- lead to where most ways lead on is lawful; before which time nothing was left out is as it was told.
 pub record IsFoundLawfully {End : Type 0} (IsJournal : JournalRelation End) (design : Design) (limits : Limits) (loosely : Explored LooseTransition End) (lawful : Explored Entry End) : Type 0 where
   -- whether none was left out
   pub whole : Bool
@@ -75,3 +83,5 @@ pub record IsFoundLawfully {End : Type 0} (IsJournal : JournalRelation End) (des
   pub stopped_is : IsStoppedBy loosely.stopped whole lawful.stopped
   pub nodes_are : lawful.nodes ≡ loosely.nodes
   pub never_ends : IfSome lawful.endless (λ journal. IsEndlessJournal design limits journal.items)
+  pub before_is : lawful.followed_before ≡ loosely.followed_before
+  pub widest_led : IfSome lawful.widest (λ journal. IsLedJournal design limits journal.items)

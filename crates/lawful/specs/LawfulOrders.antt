@@ -13,7 +13,7 @@ use Rattle.explore.specs.SearchedRuns.{Runs}
 use Rattle.explore.specs.Search.{AreAllShown, AreDistinct}
 use Rattle.loose.specs.declared.transition.LooseTransition.{LooseTransition}
 use Rattle.lawful.specs.declared.node.LooseNode.{LooseNode}
-use Rattle.lawful.specs.Journals.{JournalRelation, HasLawfulJournal, texts_and_ends}
+use Rattle.lawful.specs.Journals.{IsLedJournal, JournalRelation, HasLawfulJournal, texts_and_ends}
 
 -- what a search asks of its limits and its bounds: room for a node, and for an entry, and no time past the last one
 pub record MaySearch (limits : Limits) (bounds : Bounds) : Type 0 where
@@ -32,7 +32,8 @@ pub record AreFoundLoosely {End : Type 0} (runs : Runs LooseTransition LooseNode
   pub shown_full : found.stopped ≡ Some stop.Shown → length found.shown.items ≡ bounds.shown
 
 -- Each text that is shown is that of the lawful journal beside it, and so is its end; no two have one text and one end; they are all where
--- the search wasn't stopped; the search kept to its bounds, and to the one that stopped it; and what is said to be endless is.
+-- the search wasn't stopped; the search kept to its bounds, and to the one that stopped it; what is said to be endless is; and the journal that leads to where
+-- most ways lead on is lawful.
 pub record AreLawfulOrders {End : Type 0} (IsJournal : JournalRelation End) (AreAll : List (List ℕ × End) → Type 0) (design : Design) (limits : Limits) (bounds : Bounds) (found : Explored Entry End) : Type 0 where
   pub journals : All (HasLawfulJournal IsJournal) found.shown.items
   pub distinct : AllPairs AreDistinct found.shown.items
@@ -42,3 +43,4 @@ pub record AreLawfulOrders {End : Type 0} (IsJournal : JournalRelation End) (Are
   pub nodes_full : found.stopped ≡ Some stop.Nodes → found.nodes ≡ bounds.nodes
   pub shown_full : found.stopped ≡ Some stop.Shown → length found.shown.items ≡ bounds.shown
   pub never_ends : IfSome found.endless (λ journal. IsEndlessJournal design limits journal.items)
+  pub widest_led : IfSome found.widest (λ journal. IsLedJournal design limits journal.items)

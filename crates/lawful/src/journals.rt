@@ -5,13 +5,13 @@ ghost use Rattle.design.specs.Compiled.{design_of};
 ghost use Rattle.loose.specs.Classes.{class_in};
 ghost use Rattle.explore.specs.Search.{IsEndless};
 ghost use Rattle.lawful.specs.LooseNodes.{searched_runs};
-ghost use Rattle.lawful.specs.Journals.{AreFirstShownLawfully, IsAddedLawfully, IsFoundLawfully, IsShownLawfully, IsStoppedBy, memory_or};
+ghost use Rattle.lawful.specs.Journals.{AreFirstShownLawfully, IsAddedLawfully, IsFoundLawfully, IsLedJournal, IsShownLawfully, IsStoppedBy, memory_or};
 
 use crate::endless::endless_journal;
 use crate::telling::RunTelling;
 use explore::{Explored, Shown, Stopped};
 use loose::transition::LooseTransition;
-use loosejournals::LeadScope;
+use loosejournals::{LeadScope, lead};
 use model::entry::Entry;
 use std::alloc::AllocError;
 
@@ -119,9 +119,40 @@ fn stopped_by(stopped: Option<Stopped>, whole: bool) -> Option<Stopped>
     Some(stopped_without_journal(stopped))
 }
 
-/// What a search of loose runs found, with lawful journals in the place of its runs: one of each text and end that is shown, and one from
-/// which no run comes to an end, where it found such a run. Where memory is refused to a journal, what has one so far, and the search says
-/// that it stopped. None where no lawful journal is found of one of these runs.
+// The lawful journal that these transitions of a loose run lead. None where they lead none. Fails where memory is refused.
+fn led_journal(
+    scope: LeadScope<'_>,
+    moves: &[LooseTransition],
+) -> Result<Option<Vec<Entry>>, AllocError>
+    requires until { IfSome scope.limits.until (λ until. until ≤ last_time) }
+    ensures { IfOk result (λ found. IfSome found (λ journal. IsLedJournal (design_of scope.entry.design.now) scope.entry.limits journal.items)) }
+{
+    let mut led = match lead(scope, moves)? {
+        Some(led) => led,
+        None => return Ok(None),
+    };
+    Ok(Some(led.take_journal(scope.alloc)))
+}
+
+// The lawful journal that the transitions of a loose run lead, where there are some. None where they lead none, and where memory is refused.
+fn widest_journal(scope: LeadScope<'_>, widest: Option<Vec<LooseTransition>>) -> Option<Vec<Entry>>
+    requires until { IfSome scope.limits.until (λ until. until ≤ last_time) }
+    ensures { IfSome result (λ journal. IsLedJournal (design_of scope.entry.design.now) scope.entry.limits journal.items) }
+{
+    let moves = match widest {
+        Some(moves) => moves,
+        None => return None,
+    };
+    match led_journal(scope, &moves) {
+        Ok(found) => found,
+        Err(_) => None,
+    }
+}
+
+/// What a search of loose runs found, with lawful journals in the place of its runs: one of each text and end that is shown, one from
+/// which no run comes to an end, where it found such a run, and one that leads to where most ways lead on, where one is led. Where memory
+/// is refused to a journal, what has one so far, and the search says that it stopped. None where no lawful journal is found of a text, or
+/// of a run from which no end is reached.
 pub(crate) fn with_all_journals<T: RunTelling>(
     telling: &T,
     scope: LeadScope<'_>,
@@ -136,8 +167,11 @@ pub(crate) fn with_all_journals<T: RunTelling>(
         stopped,
         nodes,
         endless,
+        followed_before,
+        widest,
     } = explored;
     let ShownLawfully { shown, whole } = with_journals(telling, scope, shown)?;
+    let widest = widest_journal(scope, widest);
     let moves = match endless {
         Some(moves) => moves,
         None => {
@@ -146,6 +180,8 @@ pub(crate) fn with_all_journals<T: RunTelling>(
                 stopped: stopped_by(stopped, whole),
                 nodes,
                 endless: None,
+                followed_before,
+                widest,
             });
         }
     };
@@ -155,6 +191,8 @@ pub(crate) fn with_all_journals<T: RunTelling>(
             stopped: stopped_by(stopped, whole),
             nodes,
             endless: Some(journal),
+            followed_before,
+            widest,
         }),
         Ok(None) => None,
         Err(_) => Some(Explored {
@@ -162,6 +200,8 @@ pub(crate) fn with_all_journals<T: RunTelling>(
             stopped: stopped_by(stopped, false),
             nodes,
             endless: None,
+            followed_before,
+            widest,
         }),
     }
 }

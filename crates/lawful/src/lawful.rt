@@ -8,6 +8,7 @@ ghost use Rattle.explore.specs.declared.stopped.Stopped.TheVariants as stop;
 ghost use Rattle.looseruns.specs.ObservedJournals.{AreAllObservedTexts};
 ghost use Rattle.observers.specs.Observers.{observer_of};
 ghost use Rattle.lawful.specs.ArrangedNodes.{IsArrangedText, IsArrangementOf, registers_seen};
+ghost use Rattle.lawful.specs.Journals.{IsLedJournal};
 ghost use Rattle.lawful.specs.LawfulOrders.{AreLawfulOrders, MaySearch};
 
 use crate::journals::with_all_journals;
@@ -39,12 +40,15 @@ fn nothing_found<E: Drop>(alloc: Global) -> Explored<Entry, E>
     ensures stopped { result.stopped ≡ Some stop.Memory }
     ensures nodes { result.nodes ≡ 0 }
     ensures endless { result.endless ≡ None }
+    ensures widest { result.widest ≡ None }
 {
     Explored {
         shown: Vec::new(alloc),
         stopped: Some(Stopped::Memory),
         nodes: 0,
         endless: None,
+        followed_before: None,
+        widest: None,
     }
 }
 
@@ -110,7 +114,8 @@ fn told_orders<T: RunTelling, P: Progress>(
 /// journal beside it, and so is its end; no two have one text and one end; and where the search wasn't stopped, every lawful journal
 /// in time that ends, but by the most entries or for want of memory, has a text and an end that are shown. What stopped it is told
 /// (`Unfollowed`: a run has the most entries), and so is a lawful journal from which no run comes to an end, where one is known. No
-/// journal has more than the most entries. How many states were reached is told at times.
+/// journal has more than the most entries. How many states were reached is told at times. Before which time nothing was left out is told as
+/// `explore` tells it, of loose runs; and so is where most ways lead on, by a lawful journal.
 ///
 /// The loose runs of the design are searched, and each lawful journal is one. Where one of their texts has no lawful journal that is
 /// found, the search is made once more with all registers in one class. Where memory is refused to a journal, the texts before it are
@@ -134,6 +139,7 @@ pub fn lawful_orders<P: Progress>(
     ensures nodes { result.stopped ≡ Some stop.Nodes → result.nodes ≡ bounds.nodes }
     ensures full { result.stopped ≡ Some stop.Shown → length result.shown.items ≡ bounds.shown }
     ensures endless { IfSome result.endless (λ journal. IsEndlessJournal (design_of design.now) limits journal.items) }
+    ensures widest { IfSome result.widest (λ journal. IsLedJournal (design_of design.now) limits journal.items) }
 {
     told_orders(&LinesAlone, alloc, design, limits, bounds, progress)
 }
@@ -167,6 +173,7 @@ pub fn observed_orders<P: Progress>(
     ensures nodes { result.stopped ≡ Some stop.Nodes → result.nodes ≡ bounds.nodes }
     ensures full { result.stopped ≡ Some stop.Shown → length result.shown.items ≡ bounds.shown }
     ensures endless { IfSome result.endless (λ journal. IsEndlessJournal (design_of design.now) limits journal.items) }
+    ensures widest { IfSome result.widest (λ journal. IsLedJournal (design_of design.now) limits journal.items) }
 {
     told_orders(observing, alloc, design, limits, bounds, progress)
 }

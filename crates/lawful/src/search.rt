@@ -100,6 +100,8 @@ impl<'a, 'd, T: RunTelling> Orders for LooseRuns<'a, 'd, T> {
 
     ghost has_key = { λ o node key. T.is_key o.telling.now (class_in o.classes.items) node key };
 
+    ghost time_of = { λ _ node. node.machine.value.core.time };
+
     // The machine at the start of the design's run.
     fn start(&self, alloc: Global) -> Result<LooseNode<'d>, AllocError> {
         let machine = start_of(alloc, self.analyzed_design.design())?;
@@ -135,6 +137,10 @@ impl<'a, 'd, T: RunTelling> Orders for LooseRuns<'a, 'd, T> {
         node: &LooseNode<'d>,
     ) -> Result<(), AllocError> {
         self.telling.key(room, key, node, &self.classes)
+    }
+
+    fn time(&self, node: &LooseNode<'d>) -> u64 {
+        node.machine.time()
     }
 
     fn weight(&self, node: &LooseNode<'d>) -> usize {

@@ -1,4 +1,5 @@
 pub mod Begun
+pub mod LineWords
 pub mod Races
 pub mod TextLaws
 pub mod UnseenNames

@@ -179,11 +179,11 @@ four old a b c d mid next last new one other third end =
 pub tells_more_behind : {A E : Type 0} (r : Result A E) (source : List ℕ) (places : SourcePlaces) (code : Compiled) (shown : List (Shown Entry End)) (prefix : Option (List ℕ)) (race_bounds : RaceBounds) (found : Found) (early : ℕ) (causes : Causes) (old mid next last end said new : List ℕ) (before after : ToldSoFar)
     → ArePlacesOf source places → before.number ≡ numbered_before found early causes.causes.items + 1 → before.orders.items ≡ [] → TellsSome places code shown prefix (drop early causes.causes.items) old mid before after
     → next ≡ mid ++ orders_text places.processes.now prefix after.orders.items → last ≡ next ++ unnamed_lines causes.unnamed.items → end ≡ last ++ list_end_text race_bounds causes.cut
-    → TellsAlone code shown end said → OnOk r (new ≡ said ++ unseen_text code (length shown) found.unseen) → OnOk r (TellsMoreBehind source code shown prefix race_bounds found early causes old new)
+    → TellsAlone code shown end said → OnOk r (new ≡ said ++ unseen_text code places.processes.now (length shown) found.unseen) → OnOk r (TellsMoreBehind source code shown prefix race_bounds found early causes old new)
 tells_more_behind (Ok x) source places code shown prefix race_bounds found early causes old mid next last end said new before after of_source first none some orders unnamed cut alone seen =
     let ended : List ℕ = list_end_text race_bounds causes.cut in
     let words : List ℕ = order_alone_text alone.alone in
-    let names : List ℕ = unseen_text code (length shown) found.unseen in
+    let names : List ℕ = unseen_text code places.processes.now (length shown) found.unseen in
     record {
       lines = races_text some.told ++ (orders_text places.processes.now prefix some.kept ++ (unnamed_lines causes.unnamed.items ++ (ended ++ (words ++ names))));
       tells = record {

@@ -6,3 +6,4 @@ pub mod RaceWords
 pub mod RoleWords
 pub mod TextOrders
 pub mod UnseenRegisters
+pub mod SearchReach

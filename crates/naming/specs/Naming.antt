@@ -4,6 +4,7 @@ use Rattle.std.specs.List.{All, filter}
 use Rattle.model.specs.declared.entry.Entry.{Entry}
 use Rattle.model.specs.declared.end.End.{End}
 use Rattle.design.specs.Compiled.{Compiled}
+use Rattle.executed.specs.declared.statements.RunStatements.{RunStatements}
 use Rattle.explore.specs.declared.Shown.{Shown}
 use Rattle.runs.specs.declared.run.RunRecord.{RunRecord}
 use Rattle.causes.specs.declared.parting_race.PartingRace.{PartingRace}
@@ -34,17 +35,22 @@ use Rattle.naming.specs.UnseenRegisters.{unseen_text}
 use Rattle.naming.specs.RaceWords.{cut_of, IsSiteTold}
 use Rattle.naming.specs.RoleWords.{role_words}
 
--- a process is told by its number, where it begins, and what it does at this site, in words and with the lines between which it does so, where they are known
+-- a process is told by its number, where it begins, and what it does at this site, in words and with the lines of statements of it that do so: of those that were found to
+-- have run, or else those between which all stand, where they are known
 pub record IsRoleTold (places : SourcePlaces) (site : SiteDescription) (role : found_role.Role) (told : RoleDescription) : Type 0 where
   pub number : told.number ≡ role.process
   pub begin : told.begins ≡ begin_of places.processes.now role.process
-  pub does : told.does.now ≡ role_words places site role
+  -- the statements by which it did so, as they were found, if they were
+  pub run : Option RunStatements
+  pub does : told.does.now ≡ role_words places site role run
 
 -- A race is so in words: what it is for, and what its two processes do.
 pub record AreWordsOf (places : SourcePlaces) (code : Compiled) (race : found_race.Race) (words : RaceWords) : Type 0 where
   pub site_is : IsSiteTold code race.site words.site
-  pub first_is : words.first.now ≡ role_words places words.site race.first
-  pub second_is : words.second.now ≡ role_words places words.site race.second
+  pub first_run : Option RunStatements
+  pub first_is : words.first.now ≡ role_words places words.site race.first first_run
+  pub second_run : Option RunStatements
+  pub second_is : words.second.now ≡ role_words places words.site race.second second_run
 
 -- the first line in which two texts differ, or none where they have the same lines
 abbrev pub IsDifferenceTold : List ℕ → List ℕ → Option ℕ → List ℕ → List ℕ → Type 0
@@ -186,7 +192,8 @@ pub record TellsAlone (code : Compiled) (shown : List (Shown Entry End)) (old ne
 
 -- What was found behind so many races that part texts, and those of a first run, is told in these lines: the further races that part texts, with numbers behind those,
 -- then one line for each time of those for the order of lines, for which texts none was found, and by what their list was cut. The next line says that the texts differ only
--- in the order of lines at one time, where it stands, and then they do. The last one stands where one text is told, and names registers that differ in two runs which print it.
+-- in the order of lines at one time, where it stands, and then they do. The last one stands where one text is told, and names registers that differ in two runs which print it, and two
+-- processes whose order does that, where they are known.
 pub record TellsMore (source : List ℕ) (code : Compiled) (shown : List (Shown Entry End)) (prefix : Option (List ℕ)) (race_bounds : RaceBounds) (found : Found) (before : ℕ) (causes : Causes) (lines : List ℕ) : Type 0 where
   pub places : SourcePlaces
   pub of_source : ArePlacesOf source places
@@ -196,7 +203,7 @@ pub record TellsMore (source : List ℕ) (code : Compiled) (shown : List (Shown 
   pub are_kept : AreOrdersOf shown (line_orders (drop before causes.causes.items)) kept
   pub alone : Bool
   pub is_alone : IsTrue alone → DifferInOrder code shown
-  pub lines_is : lines ≡ races_text told ++ (orders_text places.processes.now prefix kept ++ (unnamed_lines causes.unnamed.items ++ (list_end_text race_bounds causes.cut ++ (order_alone_text alone ++ unseen_text code (length shown) found.unseen))))
+  pub lines_is : lines ≡ races_text told ++ (orders_text places.processes.now prefix kept ++ (unnamed_lines causes.unnamed.items ++ (list_end_text race_bounds causes.cut ++ (order_alone_text alone ++ unseen_text code places.processes.now (length shown) found.unseen))))
 
 -- a text has grown by such lines
 pub record TellsMoreBehind (source : List ℕ) (code : Compiled) (shown : List (Shown Entry End)) (prefix : Option (List ℕ)) (race_bounds : RaceBounds) (found : Found) (before : ℕ) (causes : Causes) (old new : List ℕ) : Type 0 where

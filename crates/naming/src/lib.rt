@@ -8,7 +8,9 @@
 //! `push_more_races` does so with races that were found later, and says where texts differ only in the order of lines at one time (`alone`),
 //! and where one text is told which registers differ in runs that print it (`unseen`).
 //!
-//! What the layer above uses: the contracts of both. The lines are those of `verdict`, with the names, the time, and the
+//! `push_reach` says how far in time a search came that met a limit, and names the processes where most of its choices are (`reach`).
+//!
+//! What the layer above uses: the contracts of these. The lines are those of `verdict`, with the names, the time, and the
 //! lines of the two runs; a journal is named by its number where it is that of the run, and nowhere else.
 #![tactic(auto)]
 
@@ -16,8 +18,10 @@ mod alone;
 mod line_orders;
 mod naming;
 mod places;
+mod reach;
 mod role_words;
 mod unseen;
 mod words;
 
 pub use naming::{RaceNames, push_more_races, push_races};
+pub use reach::{SearchReach, push_reach};

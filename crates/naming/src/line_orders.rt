@@ -1,5 +1,5 @@
 //! Races for the order of lines, told in one line for each time.
-ghost use Rattle.std.specs.Prelude.{◌≡◌, ◌++◌, IfOk, OnOk, option_map};
+ghost use Rattle.std.specs.Prelude.{◌≡◌, ◌++◌, IfOk, OnOk, map, option_map};
 ghost use Rattle.std.specs.List.{list_any};
 ghost use Rattle.naming.specs.LineOrders.{begin_line_of, each_once, is_number, is_of_time, numbers_at, of_time, order_line, orders_text, printer_of, printers_at, with_either, with_one};
 
@@ -143,13 +143,28 @@ fn line_of(processes: &[ProcessLocation], number: u32) -> Option<usize>
 }
 
 /// A process, as it is told.
-fn printer_of(processes: &[ProcessLocation], number: u32) -> PrinterDescription
+pub(crate) fn printer_of(processes: &[ProcessLocation], number: u32) -> PrinterDescription
     ensures { result ≡ printer_of processes.now number }
 {
     PrinterDescription {
         number,
         line: line_of(processes, number),
     }
+}
+
+/// Processes with these numbers, as they are told.
+pub(crate) fn printers_of(
+    alloc: Global,
+    processes: &[ProcessLocation],
+    numbers: &[u32],
+) -> Result<Vec<PrinterDescription>, AllocError>
+    ensures { IfOk result (λ printers. printers.items ≡ map (printer_of processes.now) numbers.now) }
+{
+    let mut printers = Vec::new(alloc);
+    for place in 0..numbers.len() {
+        printers.push(printer_of(processes, numbers[place]))?;
+    }
+    Ok(printers)
 }
 
 /// The processes of the races at a time, as they are told.
@@ -162,9 +177,6 @@ fn printers_at(
     ensures { IfOk result (λ printers. printers.items ≡ printers_at processes.now time orders.now) }
 {
     let numbers = numbers_at(alloc, orders, time)?;
-    let mut printers = Vec::new(alloc);
-    for place in 0..numbers.len() {
-        printers.push(printer_of(processes, numbers[place]))?;
-    }
+    let printers = printers_of(alloc, processes, numbers.as_slice())?;
     Ok(printers)
 }

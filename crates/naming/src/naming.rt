@@ -7,13 +7,14 @@ ghost use Rattle.naming.specs.Naming.{AddsOrder, AreWordsOf, HasJournal, IsDiffe
 use crate::alone::{differ_in_order, order_alone_line};
 use crate::line_orders::{LineOrder, push_orders};
 use crate::places::{SourcePlaces, none_uncut, places_with, statements_of};
-use crate::role_words::role_words;
+use crate::role_words::{has_several_lines, role_words};
 use crate::unseen::push_unseen;
 use crate::words::{cut_of, site_of};
 use accesses::are_same;
 use causes::{Causes, PartingRace, numbered_count};
 use conflicts::{Bound, RaceBounds};
 use design::Design;
+use executed::{RunStatements, StatementSearch, statements_run};
 use explore::Shown;
 use locations::processes;
 use model::end::End;
@@ -121,7 +122,13 @@ pub fn push_more_races<'a>(
     push_unnamed_texts(text, causes.unnamed.as_slice())?;
     push_end(text, names.race_bounds, causes.cut)?;
     push_alone(alloc, text, names.design, names.shown)?;
-    push_unseen(alloc, text, names.design, names.shown.len(), &found.unseen)
+    push_unseen(
+        text,
+        &places,
+        names.design,
+        names.shown.len(),
+        &found.unseen,
+    )
 }
 
 /// Puts the lines on races for the order of lines, which were kept, behind a text. Fails where memory is refused.
@@ -240,8 +247,10 @@ fn push_numbered<'a>(
     ensures { OnOk result (TellsNumbered places.now names.entry.now.design.now names.entry.now.shown.now (option_map (λ path. path.now) names.entry.now.prefix) original.entry.now number race.entry.now text.old.items text.new.items) }
 {
     let site = site_of(names.design, race.site);
-    let first = role_words(places, site, race.first)?;
-    let second = role_words(places, site, race.second)?;
+    let first_run = run_of(places, site, names.design, original, race, race.first)?;
+    let second_run = run_of(places, site, names.design, original, race, race.second)?;
+    let first = role_words(places, site, race.first, &first_run)?;
+    let second = role_words(places, site, race.second, &second_run)?;
     let words = RaceWords {
         site,
         first: first.as_str(),
@@ -250,6 +259,53 @@ fn push_numbered<'a>(
     let description = told_race(names, places, original, race, number, words);
     push_race(text, &description)?;
     Ok(())
+}
+
+/// The statements by which a process does in a race what its role says, if they are known: in the first of its runs, or else in the second.
+/// They aren't looked for where all that may have done so stand in one line. Fails where memory is refused.
+fn run_of(
+    places: &SourcePlaces<'_>,
+    site: SiteDescription<'_>,
+    design: &Design,
+    original: &RunRecord,
+    race: &Race,
+    role: accesses::Role,
+) -> Result<Option<RunStatements>, AllocError> {
+    if !has_several_lines(places, site, role) {
+        return Ok(None);
+    }
+    let run = run_in(places.alloc, design, original, race, role)?;
+    if has_run(&run) {
+        return Ok(run);
+    }
+    run_in(places.alloc, design, &race.exchanged, race, role)
+}
+
+/// The statements by which a process does in a run what its role in a race says, if they are known. Fails where memory is refused.
+fn run_in(
+    alloc: Global,
+    design: &Design,
+    run: &RunRecord,
+    race: &Race,
+    role: accesses::Role,
+) -> Result<Option<RunStatements>, AllocError> {
+    let search = StatementSearch {
+        alloc,
+        design,
+        journal: run.journal.as_slice(),
+        time: race.time,
+        site: race.site,
+        role,
+    };
+    statements_run(search)
+}
+
+/// Whether a statement ran, for all that is known.
+fn has_run(run: &Option<RunStatements>) -> bool {
+    match run {
+        Some(run) => !run.numbers.is_empty(),
+        None => false,
+    }
 }
 
 /// Says that texts differ only in the order of lines at one time, where they do. Fails where memory is refused.
@@ -281,7 +337,10 @@ fn push_end(
 }
 
 /// The processes of a source; none where it isn't cut into tokens.
-fn processes_of(alloc: Global, source: &[u8]) -> Result<Vec<locations::ProcessLocation>, AllocError>
+pub(crate) fn processes_of(
+    alloc: Global,
+    source: &[u8],
+) -> Result<Vec<locations::ProcessLocation>, AllocError>
     ensures { IfOk result (λ found. AreProcessesOf source.now found.items) }
 {
     match processes(alloc, source) {

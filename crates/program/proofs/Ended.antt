@@ -158,9 +158,9 @@ some_saved_on (Some fs) b c (Some p) journals h k = subst (λ (o : Option (List 
 
 -- what a search left behind its races, where the files were the same before it
 more_on : (source : List ℕ) (design : Compiled) (search_options : SearchOptions) (prefix : Option (List ℕ)) (early : ToldRaces) (first : List ℕ) (old new : Option (List ℕ)) (a b c : Option (List MadeFile)) → KeepsFiles a b
-    → (Appends old new first × KeepsFiles b c) ⊎ HasSavedSome source design search_options prefix early first old new b c
-    → (Appends old new first × KeepsFiles a c) ⊎ HasSavedSome source design search_options prefix early first old new a c
-more_on source design search_options prefix early first old new a b c h (inl (p, s)) = inl (p, kept_on a b c h s)
+    → (Appends old new first × SavesSomeWhereAsked b c prefix (journals_of early.known.items None)) ⊎ HasSavedSome source design search_options prefix early first old new b c
+    → (Appends old new first × SavesSomeWhereAsked a c prefix (journals_of early.known.items None)) ⊎ HasSavedSome source design search_options prefix early first old new a c
+more_on source design search_options prefix early first old new a b c h (inl (p, s)) = inl (p, some_saved_on a b c prefix (journals_of early.known.items None) h s)
 more_on source design search_options prefix early first old new a b c h (inr m) = inr (record {
   last = m.last;
   has_found = m.has_found;
@@ -647,7 +647,7 @@ waves_performed holding words waves known files files' asks h = record {
 }
 
 pub diff_performed : (holding : Option (List ℕ → List ℕ)) (words : List Text) (diff : DiffRequest) (old new : Option (List ℕ)) (files files' : Option (List MadeFile)) (same : Bool) → AsksDiff words diff
-    → HasComparedFiles holding diff.file.now diff.first.now diff.second.now old new same → KeepsFiles files files' → HasCompared holding words old new files files' same
+    → HasComparedFiles holding diff.file.now diff.first.now diff.second.now diff.all_times old new same → KeepsFiles files files' → HasCompared holding words old new files files' same
 diff_performed holding words diff old new files files' same asks h k = record {
   begins = asks.begins;
   file = diff.file.now;
@@ -656,7 +656,7 @@ diff_performed holding words diff old new files files' same asks h k = record {
   is_first = asks.is_diff.first;
   second = diff.second.now;
   is_second = asks.is_diff.second;
-  compared = h;
+  compared = subst (λ (all : Bool). HasComparedFiles holding diff.file.now diff.first.now diff.second.now all old new same) asks.is_diff.all_times h;
   unsaved = k;
 }
 

@@ -120,11 +120,15 @@ presentation_asked : (words : List Text) (explain : ExplainRequest) → AsksExpl
 presentation_asked words explain asks =
     let from : ℕ = unwrap_or (number_given (codes "from") (explain_rows (drop 1 words))) 1 in
     let to : Option ℕ = number_given (codes "to") (explain_rows (drop 1 words)) in
+    let from_time : ℕ = unwrap_or (number_given (codes "from-time") (explain_rows (drop 1 words))) 0 in
+    let to_time : Option ℕ = number_given (codes "to-time") (explain_rows (drop 1 words)) in
     let radix : Radix = radix_given (explain_rows (drop 1 words)) in
-    ap (λ (n : ℕ). presentation_of n explain.to (style_for explain)) asks.is_explain.from
-    ∙ (ap (λ (n : Option ℕ). presentation_of from n (style_for explain)) asks.is_explain.to
-    ∙ (ap (λ (r : Radix). presentation_of from to (record { radix = r; versions = explain.versions })) asks.is_explain.radix
-    ∙ ap (λ (v : Bool). presentation_of from to (record { radix = radix; versions = v })) asks.is_explain.versions))
+    ap (λ (n : ℕ). presentation_of n explain.to explain.from_time explain.to_time (style_for explain)) asks.is_explain.from
+    ∙ (ap (λ (n : Option ℕ). presentation_of from n explain.from_time explain.to_time (style_for explain)) asks.is_explain.to
+    ∙ (ap (λ (n : ℕ). presentation_of from to n explain.to_time (style_for explain)) asks.is_explain.from_time
+    ∙ (ap (λ (n : Option ℕ). presentation_of from to from_time n (style_for explain)) asks.is_explain.to_time
+    ∙ (ap (λ (r : Radix). presentation_of from to from_time to_time (record { radix = r; versions = explain.versions })) asks.is_explain.radix
+    ∙ ap (λ (v : Bool). presentation_of from to from_time to_time (record { radix = radix; versions = v })) asks.is_explain.versions))))
 
 -- the registers are asked for by the names of the words
 names_asked : (words : List Text) (explain : ExplainRequest) → AsksExplain words explain → option_map (λ names. names.now) explain.registers ≡ first_of (codes "registers") (explain_rows (drop 1 words))

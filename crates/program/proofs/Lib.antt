@@ -1,6 +1,7 @@
 -- Lemmas of statuses, ends and searches.
 pub mod Causing
 pub mod Compared
+pub mod Early
 pub mod Ended
 pub mod Endings
 pub mod Explained

@@ -19,6 +19,7 @@ use Rattle.causes.specs.declared.causes.Causes.{Causes}
 use Rattle.causes.specs.declared.parting_race.PartingRace.{PartingRace}
 use Rattle.naming.specs.Naming.{TellsBehind, TellsMore, TellsMoreBehind, TellsRaces}
 use Rattle.verdict.specs.Verdicts.{verdict_text}
+use Rattle.verdict.specs.declared.endings.RunEndings.{RunEndings}
 use Rattle.verdict.specs.declared.stops.StopDescription.{StopDescription}
 use Rattle.verdict.specs.declared.claim.Claim.{Claim}
 use Rattle.verdict.specs.declared.claim.SampledOrders.{SampledOrders}
@@ -29,13 +30,13 @@ use Rattle.files.specs.Saved.{IsHeld, KeepsFiles, MadeFile, SavesAllWhereAsked, 
 use Rattle.arguments.specs.declared.search_options.SearchOptions.{SearchOptions}
 use Rattle.program.specs.declared.finding.SearchFinding.{SearchFinding}
 use Rattle.program.specs.declared.fault.CommandFault.{CommandFault}
-use Rattle.program.specs.Findings.{AreFound, AreOfSeeds, AreRacesKnown, IsFound, IsLawfulShown, IsClaimWithin, HaveSomeEnds, OnEvery, OnSampled, claim_of, endless_number, finding_of, first_text, have_stops, journals_of, limits_in, search_stop_of, stops_from, unless_stopped, until_line}
+use Rattle.program.specs.Findings.{AreFound, AreOfSeeds, AreRacesKnown, IsFound, IsLawfulShown, IsClaimWithin, HaveSomeEnds, OnEvery, OnSampled, claim_of, endless_number, endings_of, finding_of, first_text, have_stops, journals_of, limits_in, search_stop_of, stops_from, unless_stopped, until_line}
 use Rattle.program.specs.declared.racing.NamedRaces.{NamedRaces}
 use Rattle.program.specs.declared.racing.ToldRaces.{ToldRaces}
-use Rattle.program.specs.Printed.{HasFound, HasLeft, HasShown, IsToldFirst, IsToldLast, IsToldMore}
+use Rattle.program.specs.Printed.{HasFound, HasLeft, HasShown, IsSaidLast, IsToldFirst, IsToldLast, IsToldMore}
 use Rattle.program.specs.Program.{status_of}
 use Rattle.program.proofs.Knowing.{all_of_each, few_shown, races_still}
-use Rattle.program.proofs.Ended.{all_saved_on, appends_then, kept_on, some_saved_on}
+use Rattle.program.proofs.Ended.{all_saved_on, appends_then, some_saved_on}
 use Rattle.program.proofs.Explained.{appends_kept}
 
 -- what is claimed of a search that stopped for this, or didn't
@@ -179,7 +180,7 @@ pub record IsToldBehind (source : List ℕ) (code : Compiled) (search_options : 
   pub more : List ℕ
   pub is_more : IsToldMore source code search_options prefix races shown more
   pub said : List ℕ
-  pub is_said : IsToldLast search_options prefix races.found.original.end claim shown said
+  pub is_said : IsSaidLast source search_options prefix races.found.original.end claim shown said
   pub last_is : last ≡ more ++ said
 
 -- what was told before a search of the races that part texts
@@ -192,7 +193,7 @@ pub early_answered : (source : List ℕ) (code : Compiled) (search_options : Sea
 early_answered source code search_options prefix early a b (first, is_first, begins) many = is_first.answered (subst (λ (n : ℕ). 1 < n) is_first.texts many)
 
 pub told_behind : (source : List ℕ) (code : Compiled) (search_options : SearchOptions) (prefix : Option (List ℕ)) (races : NamedRaces) (claim : Claim) (shown texts : List (Shown Entry End)) (more said lines last : List ℕ) → texts ≡ shown
-    → IsToldMore source code search_options prefix races texts more → IsToldLast search_options prefix races.found.original.end claim shown said → lines ≡ said → last ≡ more ++ lines → IsToldBehind source code search_options prefix races claim shown last
+    → IsToldMore source code search_options prefix races texts more → IsSaidLast source search_options prefix races.found.original.end claim shown said → lines ≡ said → last ≡ more ++ lines → IsToldBehind source code search_options prefix races claim shown last
 told_behind source code search_options prefix races claim shown texts more said lines last same told is_said are is = record {
   more = more;
   is_more = subst (λ (ss : List (Shown Entry End)). IsToldMore source code search_options prefix races ss more) same told;
@@ -202,15 +203,16 @@ told_behind source code search_options prefix races claim shown texts more said 
 }
 
 -- what is said of texts behind a search
-pub told_last : (search_options : SearchOptions) (prefix : Option (List ℕ)) (end : End) (claim : Claim) (texts shown : List (Shown Entry End)) (ends : Bool) (first : List ℕ) (stops : List StopDescription) (empty middle line last : List ℕ) → shown ≡ texts → HaveSomeEnds shown ends
-    → first ≡ first_text shown → stops ≡ stops_from 1 shown → empty ≡ [] → middle ≡ empty ++ verdict_text claim search_options.until (length shown) ends first stops prefix → last ≡ middle ++ line → line ≡ until_line search_options.until claim end
+pub told_last : (search_options : SearchOptions) (prefix : Option (List ℕ)) (end : End) (claim : Claim) (texts shown : List (Shown Entry End)) (ends : Bool) (endings : RunEndings) (first : List ℕ) (stops : List StopDescription) (empty middle line last : List ℕ) → shown ≡ texts → HaveSomeEnds shown ends
+    → endings ≡ endings_of shown → first ≡ first_text shown → stops ≡ stops_from 1 shown → empty ≡ [] → middle ≡ empty ++ verdict_text claim search_options.until (length shown) ends endings first stops prefix → last ≡ middle ++ line → line ≡ until_line search_options.until claim end
     → IsToldLast search_options prefix end claim texts last
-told_last search_options prefix end claim texts shown ends first stops empty middle line last same apart begins short none told is until =
-    let said : middle ≡ verdict_text claim search_options.until (length shown) ends (first_text shown) (stops_from 1 shown) prefix =
+told_last search_options prefix end claim texts shown ends endings first stops empty middle line last same apart ended begins short none told is until =
+    let said : middle ≡ verdict_text claim search_options.until (length shown) ends (endings_of shown) (first_text shown) (stops_from 1 shown) prefix =
     told
-    ∙ (ap (λ (l : List ℕ). l ++ verdict_text claim search_options.until (length shown) ends first stops prefix) none
-    ∙ (ap (λ (f : List ℕ). verdict_text claim search_options.until (length shown) ends f stops prefix) begins
-    ∙ ap (λ (l : List StopDescription). verdict_text claim search_options.until (length shown) ends (first_text shown) l prefix) short)) in
+    ∙ (ap (λ (l : List ℕ). l ++ verdict_text claim search_options.until (length shown) ends endings first stops prefix) none
+    ∙ (ap (λ (e : RunEndings). verdict_text claim search_options.until (length shown) ends e first stops prefix) ended
+    ∙ (ap (λ (f : List ℕ). verdict_text claim search_options.until (length shown) ends (endings_of shown) f stops prefix) begins
+    ∙ ap (λ (l : List StopDescription). verdict_text claim search_options.until (length shown) ends (endings_of shown) (first_text shown) l prefix) short))) in
     subst (λ (ss : List (Shown Entry End)). IsToldLast search_options prefix end claim ss last) same (record {
       ends = ends;
       apart = apart;
@@ -256,8 +258,8 @@ search_shown holding file source code search_options prefix early claim shown en
 
 -- a search that was told first, and didn't come further
 pub search_begun : (holding : Option (List ℕ → List ℕ)) (file : List ℕ) (source : List ℕ) (code : Compiled) (search_options : SearchOptions) (prefix : Option (List ℕ)) (early : ToldRaces) (a b : Option (List ℕ)) (files files' : Option (List MadeFile)) → IsHeld holding file source → IsDesignOf source code
-    → ((first : List ℕ) × IsToldFirst source code search_options prefix early first × Appends a b first) → KeepsFiles files files' → HasLeft holding file search_options prefix a b files files'
-search_begun holding file source code search_options prefix early a b files files' held is_design (first, is_first, begins) kept = inr (record {
+    → ((first : List ℕ) × IsToldFirst source code search_options prefix early first × Appends a b first) → SavesSomeWhereAsked files files' prefix (journals_of early.known.items None) → HasLeft holding file search_options prefix a b files files'
+search_begun holding file source code search_options prefix early a b files files' held is_design (first, is_first, begins) saved = inr (record {
   source = source;
   held = held;
   design = code;
@@ -265,14 +267,14 @@ search_begun holding file source code search_options prefix early a b files file
   early = early;
   first = first;
   is_first = is_first;
-  left = inl (begins, kept);
+  left = inl (begins, saved);
 })
 
 -- a search that was told first and last, and whose journals may not all have been saved
 pub search_left : (holding : Option (List ℕ → List ℕ)) (file : List ℕ) (source : List ℕ) (code : Compiled) (search_options : SearchOptions) (prefix : Option (List ℕ)) (early : ToldRaces) (claim : Claim) (shown : List (Shown Entry End)) (endless : Option (List Entry)) (a b c : Option (List ℕ))
     (files tried files' : Option (List MadeFile)) (last : List ℕ) → IsHeld holding file source → IsDesignOf source code → ((first : List ℕ) × IsToldFirst source code search_options prefix early first × Appends a b first)
     → AreFound code search_options claim shown endless → Extends early.known.items shown → IsToldBehind source code search_options prefix early.races claim shown last → KeepsFiles files tried
-    → (Keeps b c × KeepsFiles tried files') ⊎ (Appends b c last × SavesSomeWhereAsked tried files' prefix (journals_of shown endless)) → HasLeft holding file search_options prefix a c files files'
+    → (Keeps b c × SavesSomeWhereAsked tried files' prefix (journals_of early.known.items None)) ⊎ (Appends b c last × SavesSomeWhereAsked tried files' prefix (journals_of shown endless)) → HasLeft holding file search_options prefix a c files files'
 unfolding found_behind
 search_left holding file source code search_options prefix early claim shown endless a b c files tried files' last held is_design (first, is_first, begins) are_found grown is_last kept (inl (same, saved)) = inr (record {
   source = source;
@@ -282,7 +284,7 @@ search_left holding file source code search_options prefix early claim shown end
   early = early;
   first = first;
   is_first = is_first;
-  left = inl (appends_kept a b c first begins same, kept_on files tried files' kept saved);
+  left = inl (appends_kept a b c first begins same, some_saved_on files tried files' prefix (journals_of early.known.items None) kept saved);
 })
 search_left holding file source code search_options prefix early claim shown endless a b c files tried files' last held is_design (first, is_first, begins) are_found grown is_last kept (inr (ends, saved)) = inr (record {
   source = source;

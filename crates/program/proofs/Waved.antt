@@ -1,5 +1,5 @@
 -- What a search for waves has found, with what is claimed of it.
-use Rattle.std.proofs.Common.{◌≡◌, ◌⊎◌, ◌∙◌, ap, inl, inr, subst, sym, refl, ℕ, suc, ◌+◌, ◌≤◌, ◌<◌, Bool, true, false, List, [], ◌∷◌, ◌++◌, length, get_or, Option, Some, None, option_map, Result, Ok, Err, IfErr, IfOk, IfSome, IsTrue, arith}
+use Rattle.std.proofs.Common.{◌≡◌, ◌⊎◌, ◌∙◌, ap, append_assoc, inl, inr, subst, sym, refl, ℕ, suc, ◌+◌, ◌≤◌, ◌<◌, Bool, true, false, List, [], ◌∷◌, ◌++◌, length, get_or, Option, Some, None, option_map, Result, Ok, Err, IfErr, IfOk, IfSome, IsTrue, arith}
 use Rattle.std.specs.Prelude.{nat_lt, if◌then◌else◌}
 use Rattle.std.specs.List.{All, AllPairs, Any, Contains}
 use Rattle.std.specs.Io.KnownBytes.{Appends, Keeps}
@@ -21,12 +21,13 @@ use Rattle.std.proofs.lemmas.List.Elements.{All-nil, All-cons, All-head, All-tai
 use Rattle.arguments.specs.declared.search_options.SearchOptions.{SearchOptions}
 use Rattle.arguments.specs.declared.observed.Observed.{Observed}
 use Rattle.files.specs.Saved.{IsHeld, KeepsFiles, MadeFile, SavesAllWhereAsked, SavesSomeWhereAsked}
-use Rattle.program.specs.Findings.{OnEvery, endless_number, finding_of, first_text, have_stops, journals_of, limits_in, search_stop_of, stops_from, unless_stopped}
-use Rattle.program.specs.Observed.{AreAllWaves, AreFoundWaves, AreRegistersAsked, AreRegistersOf, AreWavesSaid, HasFoundWaves, HasLeftWaves, HasNoRegister, HasObserved, HasArrangedTexts, HasSaidWaves, HasSavedWaves, IsLawfulWave, IsNameTold, IsObservedEnding, IsWaveClaimWithin, observer_of_registers, texts_bound, wave_claim_of}
+use Rattle.program.specs.Findings.{OnEvery, endless_number, endings_of, finding_of, first_text, have_stops, journals_of, limits_in, search_stop_of, stops_from, unless_stopped}
+use Rattle.program.specs.Observed.{AreAllWaves, AreFoundWaves, AreRegistersAsked, AreRegistersOf, AreWavesSaid, HasFoundWaves, HasLeftWaves, HasNoRegister, HasObserved, HasArrangedTexts, HasSaidWaves, HasSavedWaves, IsLawfulWave, IsNameTold, IsObservedEnding, IsWaveClaimWithin, observer_of_registers, observes_all, texts_bound, wave_claim_of, before_line}
 use Rattle.program.specs.declared.ending.Ending.{Ending}
 use Rattle.program.specs.declared.ending.Ending.TheVariants as ending
 use Rattle.frontend.specs.Sources.{IsDesignOf}
 use Rattle.verdict.specs.WaveLines.{wave_verdict_text}
+use Rattle.verdict.specs.declared.endings.RunEndings.{RunEndings}
 use Rattle.verdict.specs.declared.stops.StopDescription.{StopDescription}
 use Rattle.wavetexts.specs.AtTimes.{printed_lines}
 use Rattle.wavetexts.specs.ToldWaves.{TellsWaves}
@@ -148,7 +149,7 @@ waves_found items code search_options registers observe seen_registers s t nodes
 -- what was said of waves, where the files were the same before it
 
 pub said_waves : (code : Compiled) (asked : Observed) (search_options : SearchOptions) (prefix : Option (List ℕ)) (registers : List ℕ) (claim : Claim) (waves : List (Shown Entry End)) (endless : Option (List Entry)) (said : List ℕ) (old new : Option (List ℕ))
-    → AreRegistersOf code asked registers → AreFoundWaves code search_options registers claim waves endless → AreWavesSaid code registers search_options prefix claim waves said → Appends old new said → HasSaidWaves code asked search_options prefix old new
+    → AreRegistersOf code asked registers → AreFoundWaves code search_options registers claim waves endless → AreWavesSaid code asked registers search_options prefix claim waves said → Appends old new said → HasSaidWaves code asked search_options prefix old new
 said_waves code asked search_options prefix registers claim waves endless said old new are found told printed = record {
   registers = registers;
   are_registers = are;
@@ -162,7 +163,7 @@ said_waves code asked search_options prefix registers claim waves endless said o
 }
 
 pub found_waves : (code : Compiled) (asked : Observed) (search_options : SearchOptions) (prefix : Option (List ℕ)) (registers : List ℕ) (claim : Claim) (waves : List (Shown Entry End)) (endless : Option (List Entry)) (said : List ℕ) (old new : Option (List ℕ)) (a b c : Option (List MadeFile)) (f : SearchFinding)
-    → AreRegistersOf code asked registers → AreFoundWaves code search_options registers claim waves endless → AreWavesSaid code registers search_options prefix claim waves said → Appends old new said → KeepsFiles a b → SavesAllWhereAsked b c prefix (journals_of waves endless)
+    → AreRegistersOf code asked registers → AreFoundWaves code search_options registers claim waves endless → AreWavesSaid code asked registers search_options prefix claim waves said → Appends old new said → KeepsFiles a b → SavesAllWhereAsked b c prefix (journals_of waves endless)
     → f ≡ finding_of claim (length waves) (have_stops waves) false → HasFoundWaves code asked search_options prefix old new a c f
 unfolding said_waves
 found_waves code asked search_options prefix registers claim waves endless said old new a b c f are found told printed before saved is = record {
@@ -173,7 +174,7 @@ found_waves code asked search_options prefix registers claim waves endless said 
 
 -- what is left where a search for waves ended for want of memory
 pub left_waves : (code : Compiled) (asked : Observed) (search_options : SearchOptions) (prefix : Option (List ℕ)) (registers : List ℕ) (claim : Claim) (waves : List (Shown Entry End)) (endless : Option (List Entry)) (said : List ℕ) (old new : Option (List ℕ)) (a b c : Option (List MadeFile))
-    → AreRegistersOf code asked registers → AreFoundWaves code search_options registers claim waves endless → AreWavesSaid code registers search_options prefix claim waves said → KeepsFiles a b
+    → AreRegistersOf code asked registers → AreFoundWaves code search_options registers claim waves endless → AreWavesSaid code asked registers search_options prefix claim waves said → KeepsFiles a b
     → (Keeps old new × KeepsFiles b c) ⊎ (Appends old new said × SavesSomeWhereAsked b c prefix (journals_of waves endless)) → AreUntouched old new a c ⊎ HasSavedWaves code asked search_options prefix old new a c
 unfolding said_waves
 left_waves code asked search_options prefix registers claim waves endless said old new a b c are found told before (inl (same, files)) = inl (same, kept_on a b c before files)
@@ -215,15 +216,20 @@ texts_of_waves Q (s ∷ ss) (w ∷ ws) ((text, end, moves), more) all =
 
 -- what is said of waves
 
-pub waves_said : (code : Compiled) (registers : List ℕ) (search_options : SearchOptions) (prefix : Option (List ℕ)) (claim : Claim) (waves shown : List (Shown Entry End)) (empty parts said first : List ℕ) (lines : ℕ) (stops : List StopDescription) → shown ≡ waves → empty ≡ [] → TellsWaves code.names registers prefix shown empty parts
-    → said ≡ parts ++ wave_verdict_text claim search_options.until (length shown) (length registers) lines stops prefix → first ≡ first_text shown → lines ≡ printed_lines (length registers) first → stops ≡ stops_from 1 shown → AreWavesSaid code registers search_options prefix claim waves said
-waves_said code registers search_options prefix claim waves shown empty parts said first lines stops same none tells is begins printed short =
-    subst (λ (ws : List (Shown Entry End)). AreWavesSaid code registers search_options prefix claim ws said) same (record {
+pub waves_said : (code : Compiled) (asked : Observed) (registers : List ℕ) (search_options : SearchOptions) (prefix : Option (List ℕ)) (claim : Claim) (waves shown : List (Shown Entry End)) (empty parts mid said first : List ℕ) (before : Option ℕ) (lines : ℕ) (endings : RunEndings) (stops : List StopDescription) → shown ≡ waves → empty ≡ [] → TellsWaves code.names registers prefix shown empty parts
+    → mid ≡ parts ++ before_line claim before → said ≡ mid ++ wave_verdict_text claim search_options.until (length shown) (observes_all asked) (length registers) lines endings stops prefix → first ≡ first_text shown → lines ≡ printed_lines (length registers) first → endings ≡ endings_of shown → stops ≡ stops_from 1 shown → AreWavesSaid code asked registers search_options prefix claim waves said
+waves_said code asked registers search_options prefix claim waves shown empty parts mid said first before lines endings stops same none tells told is begins printed ended short =
+    let verdict = wave_verdict_text claim search_options.until (length shown) (observes_all asked) (length registers) lines endings stops prefix in
+    let line = before_line claim before in
+    subst (λ (ws : List (Shown Entry End)). AreWavesSaid code asked registers search_options prefix claim ws said) same (record {
       parts = parts;
       tells = subst (λ (l : List ℕ). TellsWaves code.names registers prefix shown l parts) none tells;
+      before = before;
       said_is =
-          is ∙ (ap (λ (n : ℕ). parts ++ wave_verdict_text claim search_options.until (length shown) (length registers) n stops prefix) (printed ∙ ap (printed_lines (length registers)) begins)
-          ∙ ap (λ (l : List StopDescription). parts ++ wave_verdict_text claim search_options.until (length shown) (length registers) (printed_lines (length registers) (first_text shown)) l prefix) short);
+          is ∙ (ap (λ (l : List ℕ). l ++ verdict) told ∙ (append_assoc parts line verdict
+          ∙ (ap (λ (n : ℕ). parts ++ (line ++ wave_verdict_text claim search_options.until (length shown) (observes_all asked) (length registers) n endings stops prefix)) (printed ∙ ap (printed_lines (length registers)) begins)
+          ∙ (ap (λ (e : RunEndings). parts ++ (line ++ wave_verdict_text claim search_options.until (length shown) (observes_all asked) (length registers) (printed_lines (length registers) (first_text shown)) e stops prefix)) ended
+          ∙ ap (λ (l : List StopDescription). parts ++ (line ++ wave_verdict_text claim search_options.until (length shown) (observes_all asked) (length registers) (printed_lines (length registers) (first_text shown)) (endings_of shown) l prefix)) short))));
     })
 
 -- the registers that a list of names means, or the first name that no register has, where they are asked for

@@ -30,6 +30,7 @@ use Rattle.conflicts.specs.declared.bounds.RaceBounds.{RaceBounds}
 use Rattle.verdict.specs.declared.stops.StopCause.{StopCause}
 use Rattle.verdict.specs.declared.stops.StopCause.TheVariants.{LongTurn, LastTime}
 use Rattle.verdict.specs.declared.stops.StopDescription.{StopDescription}
+use Rattle.verdict.specs.declared.endings.RunEndings.{RunEndings}
 use Rattle.verdict.specs.declared.claim.SampledOrders.{SampledOrders}
 use Rattle.verdict.specs.declared.claim.Claim.{Claim}
 use Rattle.verdict.specs.declared.claim.Claim.TheVariants.{Every, SoFar, Sampled}
@@ -120,6 +121,50 @@ has_cause (Some cause) = true
 -- the run of one of these texts stops short
 abbrev pub have_stops : List (Shown Entry End) → Bool
 have_stops shown = list_any (λ s. has_cause (stop_cause s.end)) shown
+
+-- a run was stopped by `$finish`
+abbrev pub is_finish : Why → Bool
+is_finish why.Finish = true
+is_finish why.Until = false
+is_finish why.Entries = false
+is_finish (why.TooLong process) = false
+is_finish why.Time = false
+is_finish why.Memory = false
+
+-- a run was stopped by the limit of time
+abbrev pub is_until : Why → Bool
+is_until why.Finish = false
+is_until why.Until = true
+is_until why.Entries = false
+is_until (why.TooLong process) = false
+is_until why.Time = false
+is_until why.Memory = false
+
+-- a run ends by `$finish`
+abbrev pub ends_by_finish : End → Bool
+ends_by_finish ending.Quiet = false
+ends_by_finish ending.Running = false
+ends_by_finish (ending.Stopped why) = is_finish why
+
+-- a run ends with no event left
+abbrev pub ends_quiet : End → Bool
+ends_quiet ending.Quiet = true
+ends_quiet ending.Running = false
+ends_quiet (ending.Stopped why) = false
+
+-- a run ends at the limit of time
+abbrev pub ends_at_limit : End → Bool
+ends_at_limit ending.Quiet = false
+ends_at_limit ending.Running = false
+ends_at_limit (ending.Stopped why) = is_until why
+
+-- how the runs of these texts end: by which of these some do
+abbrev pub endings_of : List (Shown Entry End) → RunEndings
+endings_of shown = record {
+  finish = list_any (λ s. ends_by_finish s.end) shown;
+  quiet = list_any (λ s. ends_quiet s.end) shown;
+  cut = list_any (λ s. ends_at_limit s.end) shown;
+}
 
 -- for such a cause, that the entry with a number isn't taken by the run of the text with another one
 abbrev pub stop_in_text : ℕ → ℕ → Option StopCause → List StopDescription

@@ -1,4 +1,5 @@
 pub mod Presentations
+pub mod EarlyJournals
 pub mod RegisterOptions
 pub mod Findings
 pub mod ProgramLines

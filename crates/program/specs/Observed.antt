@@ -1,5 +1,5 @@
 -- What a search finds of runs, where something else is compared of them than their lines, in order, and what it leaves.
-use Rattle.std.specs.Prelude.{◌≡◌, ◌⊎◌, ℕ, ◌+◌, ◌*◌, ◌≤◌, min, nat_lt, if◌then◌else◌, false, List, [], ◌++◌, length, Option, Some, IfSome, option_map, string_bytes}
+use Rattle.std.specs.Prelude.{◌≡◌, ◌⊎◌, ℕ, ◌+◌, ◌*◌, ◌≤◌, min, nat_lt, if◌then◌else◌, Bool, true, false, List, [], ◌++◌, length, Option, Some, IfSome, option_map, string_bytes, None}
 use Rattle.std.specs.Io.KnownBytes.{Appends, Keeps}
 use Rattle.std.specs.List.{All, AllPairs}
 use Rattle.model.specs.declared.entry.Entry.{Entry}
@@ -16,6 +16,7 @@ use Rattle.looseruns.specs.RegisterObserver.{seen_registers, seen_unless_finishe
 use Rattle.verdict.specs.declared.claim.Claim.{Claim}
 use Rattle.verdict.specs.declared.claim.Claim.TheVariants.{Every, SoFar, Sampled}
 use Rattle.verdict.specs.declared.claim.SearchStop.TheVariants.{States, Texts, Entries, Megabytes, Memory}
+use Rattle.verdict.specs.ReachLines.{followed_text}
 use Rattle.verdict.specs.WaveLines.{wave_verdict_text}
 use Rattle.lawful.specs.ArrangedNodes.{IsArrangedText}
 use Rattle.wavetexts.specs.AtTimes.{printed_lines}
@@ -32,7 +33,7 @@ use Rattle.frontend.specs.Sources.{IsDesignOf}
 use Rattle.program.specs.declared.ending.Ending.{Ending}
 use Rattle.program.specs.declared.ending.Ending.TheVariants as ending
 use Rattle.program.specs.declared.finding.SearchFinding.{SearchFinding}
-use Rattle.program.specs.Findings.{OnEvery, claim_of, endless_number, finding_of, first_text, have_stops, journals_of, limits_in, stops_from}
+use Rattle.program.specs.Findings.{OnEvery, claim_of, endings_of, endless_number, finding_of, first_text, have_stops, journals_of, limits_in, stops_from, met_limit}
 
 -- what is seen of a state where these registers are observed
 abbrev pub observer_of_registers : List ℕ → Observer
@@ -44,6 +45,13 @@ AreRegistersOf design observed.Lines registers = ⊥
 AreRegistersOf design observed.LinesAtTimes registers = registers ≡ []
 AreRegistersOf design observed.Registers registers = registers ≡ registers_from 0 (length design.widths)
 AreRegistersOf design (observed.Named names) registers = NamesRegisters design.names names.now registers
+
+-- all registers of a design are to be observed
+abbrev pub observes_all : Observed → Bool
+observes_all observed.Lines = false
+observes_all observed.LinesAtTimes = false
+observes_all observed.Registers = true
+observes_all (observed.Named names) = false
 
 -- this is the first of the names that are to be observed which no register of a design has
 abbrev pub HasNoRegister : Compiled → Observed → List ℕ → Type 0
@@ -116,11 +124,22 @@ pub record AreFoundWaves (design : Compiled) (search_options : SearchOptions) (r
   pub never : IfSome endless (orders.IsEndlessJournal (design_of design) (limits_in search_options))
   pub numbered : endless_number claim ≡ option_map (λ journal. length waves + 1) endless
 
--- What is said of waves: in what each but the first one parts from that, what they are, and whose runs stop short.
-pub record AreWavesSaid (design : Compiled) (registers : List ℕ) (search_options : SearchOptions) (prefix : Option (List ℕ)) (claim : Claim) (waves : List (Shown Entry End)) (said : List ℕ) : Type 0 where
+-- the line on this time before which all orders were followed, where it is claimed that a search met a limit
+abbrev pub followed_at_limit : Claim → ℕ → List ℕ
+followed_at_limit claim time = if met_limit claim then followed_text time else []
+
+-- so it is, where a time is known
+abbrev pub before_line : Claim → Option ℕ → List ℕ
+before_line claim (Some time) = followed_at_limit claim time
+before_line claim None = []
+
+-- What is said of waves: in what each but the first one parts from that, before which time all orders were followed, where a limit was met, what they are, how their runs end,
+-- and whose stop short.
+pub record AreWavesSaid (design : Compiled) (asked : Observed) (registers : List ℕ) (search_options : SearchOptions) (prefix : Option (List ℕ)) (claim : Claim) (waves : List (Shown Entry End)) (said : List ℕ) : Type 0 where
   pub parts : List ℕ
   pub tells : TellsWaves design.names registers prefix waves [] parts
-  pub said_is : said ≡ parts ++ wave_verdict_text claim search_options.until (length waves) (length registers) (printed_lines (length registers) (first_text waves)) (stops_from 1 waves) prefix
+  pub before : Option ℕ
+  pub said_is : said ≡ parts ++ (before_line claim before ++ wave_verdict_text claim search_options.until (length waves) (observes_all asked) (length registers) (printed_lines (length registers) (first_text waves)) (endings_of waves) (stops_from 1 waves) prefix)
 
 -- Waves of a design were found of the registers that were to be observed, and output grew by what is said of them.
 pub record HasSaidWaves (design : Compiled) (asked : Observed) (search_options : SearchOptions) (prefix : Option (List ℕ)) (old new : Option (List ℕ)) : Type 0 where
@@ -131,7 +150,7 @@ pub record HasSaidWaves (design : Compiled) (asked : Observed) (search_options :
   pub endless : Option (List Entry)
   pub are_found : AreFoundWaves design search_options registers claim waves endless
   pub said : List ℕ
-  pub are_said : AreWavesSaid design registers search_options prefix claim waves said
+  pub are_said : AreWavesSaid design asked registers search_options prefix claim waves said
   pub printed : Appends old new said
 
 -- So it is, the journals of the waves, and of a run that comes to no end, were saved where a prefix is given, and this is what the search has come to.

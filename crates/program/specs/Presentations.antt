@@ -13,7 +13,7 @@ style_for explain = record { radix = explain.radix; versions = explain.versions 
 
 -- which entries it asks for, in that style
 abbrev pub presentation_for : ExplainRequest → Presentation
-presentation_for explain = presentation_of explain.from explain.to (style_for explain)
+presentation_for explain = presentation_of explain.from explain.to explain.from_time explain.to_time (style_for explain)
 
 -- the style that words ask for
 abbrev pub style_in : List Text → EntryStyle
@@ -27,4 +27,6 @@ abbrev pub presentation_in : List Text → Presentation
 presentation_in words =
     presentation_of (unwrap_or (number_given (codes "from") (explain_rows (drop 1 words))) 1)
     (number_given (codes "to") (explain_rows (drop 1 words)))
+    (unwrap_or (number_given (codes "from-time") (explain_rows (drop 1 words))) 0)
+    (number_given (codes "to-time") (explain_rows (drop 1 words)))
     (style_in words)

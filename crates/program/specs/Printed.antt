@@ -1,5 +1,5 @@
 -- What a command leaves on standard output and in files.
-use Rattle.std.specs.Prelude.{◌≡◌, ◌⊎◌, ◌<◌, ◌++◌, ℕ, Bool, IsTrue, true, false, List, Option, Some, None, codes, drop, length, string_bytes}
+use Rattle.std.specs.Prelude.{◌≡◌, ◌⊎◌, ◌<◌, ◌++◌, ℕ, Bool, IsTrue, true, false, List, [], Option, Some, None, codes, drop, length, string_bytes}
 use Rattle.std.specs.Io.KnownBytes.{Appends, Keeps}
 use Rattle.design.specs.Compiled.{Compiled, design_of}
 use Rattle.model.specs.Syntax.{Module}
@@ -35,13 +35,14 @@ use Rattle.causes.specs.declared.causes.Causes.{Causes}
 use Rattle.verdict.specs.declared.claim.Claim.{Claim}
 use Rattle.verdict.specs.Verdicts.{verdict_text}
 use Rattle.naming.specs.Naming.{TellsMore, TellsRaces}
+use Rattle.naming.specs.SearchReach.{TellsReach}
 use Rattle.arguments.specs.declared.search_options.SearchOptions.{SearchOptions}
 use Rattle.program.specs.Presentations.{presentation_in}
 use Rattle.program.specs.declared.racing.NamedRaces.{NamedRaces}
 use Rattle.program.specs.declared.racing.ToldRaces.{ToldRaces}
 use Rattle.program.specs.declared.finding.SearchFinding.{SearchFinding}
 use Rattle.program.specs.declared.finding.SearchFinding.TheVariants as finding
-use Rattle.program.specs.Findings.{AreFound, AreKnown, AreRaces, AreRacesKnown, HaveSomeEnds, IsMemoryRefused, finding_of, first_text, have_stops, journals_of, limits_in, stops_from, until_line}
+use Rattle.program.specs.Findings.{AreFound, AreKnown, AreRaces, AreRacesKnown, HaveSomeEnds, IsMemoryRefused, endings_of, finding_of, first_text, have_stops, journals_of, limits_in, met_limit, stops_from, until_line}
 use Rattle.program.specs.declared.fault.CommandFault.{CommandFault}
 use Rattle.program.specs.declared.fault.Stop.{Stop}
 use Rattle.program.specs.declared.running.LeftByRun.{LeftByRun}
@@ -56,7 +57,7 @@ use Rattle.program.specs.Observed.{HasBegunWaves, HasObserved}
 use Rattle.wavetexts.specs.Names.{NamesRegisters, NamesUnknown}
 use Rattle.program.specs.Program.{explain_fault, right_text, source_status_of, stop_of, version_text}
 use Rattle.files.specs.Saved.{AddsFile, IsHeld, IsOpened, MadeFile, KeepsFiles, SavesAllWhereAsked, SavesSomeWhereAsked, SavesWhereAsked}
-use Rattle.arguments.specs.CommandWords.{AsksHelp, Begins, check_rows, diff_rows, explain_rows, search_options_of, number_given, options_of, races_rows, replay_rows, run_rows, waves_rows}
+use Rattle.arguments.specs.CommandWords.{AsksHelp, Begins, check_rows, diff_rows, explain_rows, flag_given, search_options_of, number_given, options_of, races_rows, replay_rows, run_rows, waves_rows}
 
 -- the limits of a run
 abbrev pub run_limits_of : RunOptions → Limits
@@ -162,12 +163,24 @@ pub record IsToldMore (source : List ℕ) (design : Compiled) (search_options : 
   pub answered : 1 < length shown → HasAnswer races.found causes
   pub tells : TellsMore source design shown prefix races.bounds races.found (length races.causes.causes.items) causes more
 
--- What is said of texts behind a search whose first run has this end: what they are, whether their ends tell them apart too, and whose runs stop short; and which option ends a run, where
+-- What is said of texts behind a search whose first run has this end: what they are, whether their ends tell them apart too, how their runs end, and whose stop short; and which option ends a run, where
 -- that one didn't end.
 pub record IsToldLast (search_options : SearchOptions) (prefix : Option (List ℕ)) (end : End) (claim : Claim) (shown : List (Shown Entry End)) (last : List ℕ) : Type 0 where
   pub ends : Bool
   pub apart : HaveSomeEnds shown ends
-  pub text_is : last ≡ verdict_text claim search_options.until (length shown) ends (first_text shown) (stops_from 1 shown) prefix ++ until_line search_options.until claim end
+  pub text_is : last ≡ verdict_text claim search_options.until (length shown) ends (endings_of shown) (first_text shown) (stops_from 1 shown) prefix ++ until_line search_options.until claim end
+
+-- How far a search came that met a limit is told, or nothing is: before which time all orders were followed, and where most choices are.
+abbrev pub IsReachTold : List ℕ → Claim → List ℕ → Type 0
+IsReachTold source claim lines = (lines ≡ []) ⊎ ((time : ℕ) × IsTrue (met_limit claim) × TellsReach source time [] lines)
+
+-- What is said of texts behind a search whose first run has this end, behind how far that came, where it met a limit.
+pub record IsSaidLast (source : List ℕ) (search_options : SearchOptions) (prefix : Option (List ℕ)) (end : End) (claim : Claim) (shown : List (Shown Entry End)) (said : List ℕ) : Type 0 where
+  pub reach : List ℕ
+  pub is_reach : IsReachTold source claim reach
+  pub last : List ℕ
+  pub is_last : IsToldLast search_options prefix end claim shown last
+  pub said_is : said ≡ reach ++ last
 
 -- What is said of a search, after these races were told and these texts were known: texts were found, with those that were known before all others, those of the runs of these
 -- races are among them, unless as many as may be are, and further races and this are told of them.
@@ -181,7 +194,7 @@ pub record HasFound (source : List ℕ) (design : Compiled) (search_options : Se
   pub more : List ℕ
   pub is_more : IsToldMore source design search_options prefix early.races shown more
   pub said : List ℕ
-  pub is_said : IsToldLast search_options prefix early.races.found.original.end claim shown said
+  pub is_said : IsSaidLast source search_options prefix early.races.found.original.end claim shown said
   pub last_is : last ≡ more ++ said
 
 -- Of the design that the source in a file describes races were told, and then what was found of its texts, so far as this says. Output grew by both, the journals of the texts, and of a run that comes to no
@@ -235,8 +248,8 @@ pub record HasSavedSome (source : List ℕ) (design : Compiled) (search_options 
   pub printed : Appends old new (first ++ last)
   pub saved : SavesSomeWhereAsked files files' prefix (journals_of has_found.shown has_found.endless)
 
--- A search of the design that the source in a file describes didn't come to its end: output grew by the races and by nothing else, and the files are as they
--- were; or it grew by all that is said of it, and the files by journals of what was found.
+-- A search of the design that the source in a file describes didn't come to its end: output grew by the races and by nothing else, and of the journals of the
+-- texts that were known a beginning was saved; or it grew by all that is said of it, and the files by journals of what was found.
 pub record HasBegun (holding : Option (List ℕ → List ℕ)) (file : List ℕ) (search_options : SearchOptions) (prefix : Option (List ℕ)) (old new : Option (List ℕ)) (files files' : Option (List MadeFile)) : Type 0 where
   pub source : List ℕ
   pub held : IsHeld holding file source
@@ -245,7 +258,7 @@ pub record HasBegun (holding : Option (List ℕ → List ℕ)) (file : List ℕ)
   pub early : ToldRaces
   pub first : List ℕ
   pub is_first : IsToldFirst source design search_options prefix early first
-  pub left : (Appends old new first × KeepsFiles files files') ⊎ HasSavedSome source design search_options prefix early first old new files files'
+  pub left : (Appends old new first × SavesSomeWhereAsked files files' prefix (journals_of early.known.items None)) ⊎ HasSavedSome source design search_options prefix early first old new files files'
 
 -- a search left nothing, or came so far
 abbrev pub HasLeft : Option (List ℕ → List ℕ) → List ℕ → SearchOptions → Option (List ℕ) → Option (List ℕ) → Option (List ℕ) → Option (List MadeFile) → Option (List MadeFile) → Type 0
@@ -402,18 +415,18 @@ pub record HasWaves (holding : Option (List ℕ → List ℕ)) (words : List Tex
   pub dumped : HasDumped holding file journal path files files'
   pub unprinted : Keeps old new
 
--- Two journals that were left to read were compared on the design of a source, and this is told of them.
-pub record ComparesJournals (source : List ℕ) (first second : Option (List ℕ)) (told : Comparison) : Type 0 where
+-- Two journals that were left to read were compared on the design of a source, and this is told of them, of all times of each register that differs or not.
+pub record ComparesJournals (source : List ℕ) (all : Bool) (first second : Option (List ℕ)) (told : Comparison) : Type 0 where
   pub design : Compiled
   pub one : List Entry
   pub one_read : AreRead source first design one
   pub other : List Entry
   pub other_read : AreRead source second design other
-  pub is_told : IsComparison source design one other told
+  pub is_told : IsComparison source design all one other told
 
 -- What is in two journals' files, where that is known, was compared on the design that the source in a file describes. Output grew by what
 -- is told of them, and this says whether they are the same.
-pub record HasComparedFiles (holding : Option (List ℕ → List ℕ)) (file first second : List ℕ) (old new : Option (List ℕ)) (same : Bool) : Type 0 where
+pub record HasComparedFiles (holding : Option (List ℕ → List ℕ)) (file first second : List ℕ) (all : Bool) (old new : Option (List ℕ)) (same : Bool) : Type 0 where
   pub source : List ℕ
   pub held : IsHeld holding file source
   pub one : Option (List ℕ)
@@ -421,11 +434,11 @@ pub record HasComparedFiles (holding : Option (List ℕ → List ℕ)) (file fir
   pub other : Option (List ℕ)
   pub other_opened : IsOpened holding second other
   pub told : Comparison
-  pub compares : ComparesJournals source one other told
+  pub compares : ComparesJournals source all one other told
   pub printed : Appends old new told.text.items
   pub same_is : told.same ≡ same
 
--- The words ask for a comparison of their J1 and J2 on their FILE, and so it was made.
+-- The words ask for a comparison of their J1 and J2 on their FILE, and so it was made, of all times where they give `--all`.
 pub record HasCompared (holding : Option (List ℕ → List ℕ)) (words : List Text) (old new : Option (List ℕ)) (files files' : Option (List MadeFile)) (same : Bool) : Type 0 where
   pub begins : Begins words (codes "diff")
   pub file : List ℕ
@@ -434,7 +447,7 @@ pub record HasCompared (holding : Option (List ℕ → List ℕ)) (words : List 
   pub is_first : first_of (codes "J1") (diff_rows (drop 1 words)) ≡ Some first
   pub second : List ℕ
   pub is_second : first_of (codes "J2") (diff_rows (drop 1 words)) ≡ Some second
-  pub compared : HasComparedFiles holding file first second old new same
+  pub compared : HasComparedFiles holding file first second (flag_given (codes "all") (diff_rows (drop 1 words))) old new same
   pub unsaved : KeepsFiles files files'
 
 -- what was found differs: a search found several texts, or two journals aren't the same

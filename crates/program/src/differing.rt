@@ -15,12 +15,10 @@ use crate::ending::Ending;
 use crate::fault::{CommandFault, JournalFault};
 use crate::reading::{CommandJournal, entries_of};
 use arguments::DiffRequest;
-use design::Design;
-use differences::{CompareFault, Comparison, JournalSide, compare};
+use differences::{CompareFault, ComparedJournals, Comparison, JournalSide, compare};
 use files::{Files, open_file, read_file, send_off, show_bytes};
 use frontend::read_design;
 use journal::Counted;
-use model::entry::Entry;
 use progress::Progress;
 use std::alloc::Global;
 use std::io::{Read, Write};
@@ -39,59 +37,52 @@ pub fn diff_journals<'a, F: Files, O: Write>(
     let source = read_file(alloc, request.file, files)?;
     let first = open_file(request.first, files)?;
     let second = open_file(request.second, files)?;
-    let told = compare_read(alloc, source.as_slice(), first, second, &files.progress())?;
+    let told = compare_read(
+        alloc,
+        source.as_slice(),
+        request.all_times,
+        first,
+        second,
+        &files.progress(),
+    )?;
     show_bytes(out, told.text.as_slice())?;
     send_off(out)?;
     Ok(Ending::of_comparison(told.same))
 }
 
-/// Compares two journals that are left to read, on the design of a source.
+/// Compares two journals that are left to read, on the design of a source, and of all times or not.
 fn compare_read<R: Read + Drop, P: Progress>(
     alloc: Global,
     source: &[u8],
+    all: bool,
     first: R,
     second: R,
     progress: &P,
 ) -> Result<Comparison, CommandFault<'static>>
-    ensures { IfOk result (ComparesJournals source.now (R.remaining first) (R.remaining second)) }
+    ensures { IfOk result (ComparesJournals source.now all (R.remaining first) (R.remaining second)) }
 {
     let design = read_design(alloc, source)?;
     let ones = entries_of(alloc, first, CommandJournal::Side(JournalSide::First))?;
     let others = entries_of(alloc, second, CommandJournal::Side(JournalSide::Second))?;
-    let read = ReadJournals {
+    let journals = ComparedJournals {
         source,
         design: &design,
         first: ones.as_slice(),
         second: others.as_slice(),
+        all,
     };
-    comparison_of(alloc, read, progress)
-}
-
-/// Two journals on the design of a source.
-#[derive(Clone, Copy)]
-struct ReadJournals<'a> {
-    source: &'a [u8],
-    design: &'a Design,
-    first: &'a [Entry],
-    second: &'a [Entry],
+    comparison_of(alloc, journals, progress)
 }
 
 /// What is told of two journals on the design of a source.
 fn comparison_of<P: Progress>(
     alloc: Global,
-    read: ReadJournals<'_>,
+    journals: ComparedJournals<'_>,
     progress: &P,
 ) -> Result<Comparison, CommandFault<'static>>
-    ensures { IfOk result (IsComparison read.entry.source.now read.entry.design.now read.entry.first.now read.entry.second.now) }
+    ensures { IfOk result (IsComparison journals.entry.source.now journals.entry.design.now journals.entry.all journals.entry.first.now journals.entry.second.now) }
 {
-    let compared = compare(
-        alloc,
-        read.source,
-        read.design,
-        read.first,
-        read.second,
-        progress,
-    );
+    let compared = compare(alloc, journals, progress);
     progress.end();
     match compared {
         Ok(told) => Ok(told),

@@ -146,7 +146,13 @@ fn asked_presentation(request: &ExplainRequest<'_>) -> Presentation
         radix: request.radix,
         versions: request.versions,
     };
-    Presentation::between(request.from, request.to, style)
+    Presentation::between(
+        request.from,
+        request.to,
+        request.from_time,
+        request.to_time,
+        style,
+    )
 }
 
 /// Tells a journal that is left to read on the design of a source.

@@ -14,6 +14,7 @@
 
 mod checking;
 mod differing;
+mod early_journals;
 mod ending;
 mod explaining;
 mod fault;
@@ -27,6 +28,7 @@ mod racing;
 mod reading;
 mod register_option;
 mod replaying;
+mod run_ends;
 mod running;
 mod sampling;
 mod searching;

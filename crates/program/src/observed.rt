@@ -12,18 +12,21 @@ ghost use Rattle.arguments.specs.Options.{CanSearch};
 ghost use Rattle.arguments.specs.declared.observed.Observed.TheVariants.{Lines};
 ghost use Rattle.files.specs.Saved.{KeepsFiles, LeadsElsewhere, journal_path};
 ghost use Rattle.program.specs.Findings.{AreFew};
-ghost use Rattle.program.specs.Observed.{AreFoundWaves, AreRegistersAsked, AreRegistersOf, AreWavesSaid, HasLeftWaves, HasObserved, IsNameTold, IsObservedEnding, HasSavedWaves, most_texts, observer_of_registers, texts_bound, wave_claim_of};
+ghost use Rattle.program.specs.Observed.{AreFoundWaves, AreRegistersAsked, AreRegistersOf, AreWavesSaid, HasLeftWaves, HasObserved, IsNameTold, IsObservedEnding, HasSavedWaves, most_texts, observer_of_registers, observes_all, texts_bound, wave_claim_of, before_line, followed_at_limit};
 ghost use Rattle.program.specs.Printed.{AreUntouched};
 ghost use Rattle.program.specs.Program.{status_of};
 
+use crate::early_journals::SavedEarly;
 use crate::ending::Ending;
 use crate::fault::CommandFault;
 use crate::known::KnownTexts;
+use crate::run_ends::endings_of;
 use crate::searching::{
-    bounds_of, claim_of, endless_of, finding_of, first_of, number_of, stop_of, tell_texts,
+    bounds_of, claim_of, endless_of, finding_of, first_of, met_limit, number_of, stop_of,
+    tell_texts,
 };
 use crate::stops::stops_of;
-use crate::texts::FoundTexts;
+use crate::texts::{FoundTexts, ToldTexts};
 use arguments::{Observed, RacesRequest, SearchOptions};
 use design::{Design, RegId};
 use explore::{Explored, Shown, Stopped};
@@ -37,7 +40,7 @@ use observers::Observing;
 use progress::Progress;
 use std::alloc::{AllocError, Global};
 use std::io::Write;
-use verdict::{Claim, SearchStop, WaveVerdict, push_wave_verdict};
+use verdict::{Claim, SearchStop, WaveVerdict, push_followed, push_wave_verdict};
 use wavetexts::{
     NamedRegisters, WaveNames, all_registers, printed_lines, push_waves, registers_named, waves_of,
 };
@@ -139,16 +142,13 @@ fn tell_waves<F: Files, O: Write>(
     try_first(alloc, request.journals, files)?;
     let search_options = request.search_options;
     let waves = find_waves(alloc, design, search_options, registers, &files.progress())?;
-    let said = wave_lines(
-        alloc,
-        design,
-        registers,
-        &waves,
-        search_options,
-        request.journals,
-    )?;
+    let said = wave_lines(alloc, design, registers, &waves, request)?;
     let found = finding_of(&waves, false);
-    match tell_texts(alloc, waves, said.as_slice(), request, files, out) {
+    let told = ToldTexts {
+        texts: waves,
+        lines: said,
+    };
+    match tell_texts(alloc, told, SavedEarly::none(), request, files, out) {
         Ok(()) => Ok(Ending::Found(found)),
         Err(fault) => Err(fault),
     }
@@ -188,6 +188,8 @@ fn find_waves<P: Progress>(
         stopped,
         nodes,
         endless,
+        followed_before,
+        widest,
     } = explored;
     let mut all = KnownTexts {
         shown: Vec::new(alloc),
@@ -203,6 +205,8 @@ fn find_waves<P: Progress>(
         claim,
         shown,
         endless,
+        followed_before,
+        widest,
     })
 }
 
@@ -261,35 +265,68 @@ fn wave_claim_of(
     }
 }
 
-/// What is said of the waves.
-fn wave_lines<'a>(
+/// Whether all registers are to be observed.
+fn observes_all(observed: Observed<'_>) -> bool
+    ensures { result ≡ observes_all observed.entry }
+{
+    match observed {
+        Observed::Registers => true,
+        Observed::Lines | Observed::LinesAtTimes | Observed::Named(_) => false,
+    }
+}
+
+/// What is said of the waves that a request asks for.
+fn wave_lines(
     alloc: Global,
-    design: &'a Design,
-    registers: &'a [RegId],
-    waves: &'a FoundTexts,
-    search_options: SearchOptions,
-    prefix: Option<&'a str>,
+    design: &Design,
+    registers: &[RegId],
+    waves: &FoundTexts,
+    request: &RacesRequest<'_>,
 ) -> Result<Vec<u8>, AllocError>
-    ensures { IfOk result (λ said. AreWavesSaid design.entry.now registers.entry.now search_options (option_map (λ path. path.now) prefix.entry) waves.entry.now.claim waves.entry.now.shown.items said.items) }
+    ensures { IfOk result (λ said. AreWavesSaid design.now request.now.observed registers.now request.now.search_options (option_map (λ path. path.now) request.now.journals) waves.now.claim waves.now.shown.items said.items) }
 {
     let names = WaveNames {
         design,
         registers,
-        prefix,
+        prefix: request.journals,
     };
     let shown = waves.shown.as_slice();
     let stops = stops_of(alloc, shown)?;
     let verdict = WaveVerdict {
         claim: waves.claim,
-        until: search_options.until,
+        until: request.search_options.until,
         count: shown.len(),
+        all: observes_all(request.observed),
         registers: registers.len(),
         lines: printed_lines(registers.len(), first_of(shown)),
+        endings: endings_of(shown),
         stops: stops.as_slice(),
-        prefix,
+        prefix: request.journals,
     };
     let mut said = Vec::new(alloc);
     push_waves(&mut said, &names, shown)?;
+    push_before(&mut said, waves.claim, waves.followed_before)?;
     push_wave_verdict(&mut said, &verdict)?;
     Ok(said)
+}
+
+/// Puts the line on a time before which all orders were followed behind a text, where it is claimed that a search met a limit, and that is known.
+fn push_before(text: &mut Vec<u8>, claim: Claim, before: Option<u64>) -> Result<(), AllocError>
+    ensures { OnOk result (text.new.items ≡ text.old.items ++ before_line claim before) }
+{
+    match before {
+        Some(time) => push_before_time(text, claim, time),
+        None => Ok(()),
+    }
+}
+
+/// Puts the line on this time before which all orders were followed behind a text, where it is claimed that a search met a limit.
+fn push_before_time(text: &mut Vec<u8>, claim: Claim, time: u64) -> Result<(), AllocError>
+    ensures { OnOk result (text.new.items ≡ text.old.items ++ followed_at_limit claim time) }
+{
+    if met_limit(claim) {
+        push_followed(text, time)
+    } else {
+        Ok(())
+    }
 }

@@ -69,6 +69,8 @@ pub fn sampled<P: Progress>(
         claim: Claim::Sampled(orders),
         shown,
         endless: None,
+        followed_before: None,
+        widest: None,
     })
 }
 

@@ -1,7 +1,8 @@
-//! `races FILE`: the file is read, and races are looked for and told. Then the lawful orders are searched, which may take long, or random
-//! ones tried. Races that part the texts which that found, and what is said of the texts, are told, and then the journals are written.
+//! `races FILE`: the file is read, races are looked for and told, and the journals of the texts that are known by then are written. Then the lawful
+//! orders are searched, which may take long, or random ones tried. Races that part the texts which that found, and what is said of the texts, are told,
+//! and then the other journals are written.
 
-ghost use Rattle.std.specs.Prelude.{◌≡◌, ◌≤◌, ◌⊎◌, ◌∷◌, ◌++◌, IfErr, IfOk, List, None, OnOk, Option, [], ◌+◌, ◌*◌, length, option_map, ℕ};
+ghost use Rattle.std.specs.Prelude.{◌≡◌, ◌≤◌, ◌⊎◌, ◌∷◌, ◌++◌, IfErr, IfOk, IfSome, List, None, OnOk, Option, [], ◌+◌, ◌*◌, length, option_map, ℕ};
 ghost use Rattle.std.specs.Io.KnownBytes.{Appends, Keeps};
 ghost use Rattle.sharing.specs.Parts.{Extends};
 ghost use Rattle.explore.specs.Search.{AreDistinct};
@@ -10,16 +11,20 @@ ghost use Rattle.frontend.specs.Sources.{IsDesignOf};
 ghost use Rattle.program.specs.Findings.{AreFound, HaveSomeEnds, IsLawfulShown, claim_of, finding_of, first_text, has_most, have_stops, is_cut, is_limit, journals_of, limits_in, met_limit, or_full, search_stop_of, unless_stopped, until_line, wants_until};
 ghost use Rattle.arguments.specs.Options.{CanSearch};
 ghost use Rattle.program.specs.Program.{status_of};
-ghost use Rattle.program.specs.Printed.{HasLeft, HasShown, IsToldLast};
-ghost use Rattle.files.specs.Saved.{IsHeld, KeepsFiles, LeadsElsewhere, SavesAllWhereAsked, SavesSomeWhereAsked, journal_path};
+ghost use Rattle.program.specs.Printed.{HasLeft, HasShown, IsToldLast, IsReachTold, IsSaidLast};
+ghost use Rattle.files.specs.FileStatuses.{IsFileStatus, file_status};
+ghost use Rattle.files.specs.Saved.{IsHeld, KeepsFiles, LeadsElsewhere, MadeFile, SavesAllWhereAsked, SavesSomeWhereAsked, journal_path};
+ghost use Rattle.program.specs.EarlyJournals.{AreSavedEarly};
 
+use crate::early_journals::{SavedEarly, save_early};
 use crate::fault::CommandFault;
 use crate::finding::SearchFinding;
 use crate::known::KnownTexts;
 use crate::racing::{ToldRaces, more_lines, tell_races};
+use crate::run_ends::endings_of;
 use crate::sampling::sampled;
 use crate::stops::{have_stops, stops_of};
-use crate::texts::FoundTexts;
+use crate::texts::{FoundTexts, ToldTexts};
 use arguments::{RacesRequest, SearchOptions};
 use design::Design;
 use explore::{Bounds, Explored, Shown, Stopped};
@@ -28,7 +33,7 @@ use frontend::read_design;
 use lawful::lawful_orders;
 use model::end::{End, Limits, Why};
 use model::entry::Entry;
-use naming::RaceNames;
+use naming::{RaceNames, SearchReach, push_reach};
 use progress::Progress;
 use std::alloc::{AllocError, Global};
 use std::io::Write;
@@ -82,6 +87,8 @@ fn search_design<F: Files, O: Write>(
         races,
         refused,
     } = early;
+    let first = known.as_slice();
+    let saved = save_early(alloc, first, request, files);
     let end = races.found.original.end;
     let texts = find_texts(
         alloc,
@@ -99,10 +106,11 @@ fn search_design<F: Files, O: Write>(
     };
     let search_options = request.search_options;
     let more = more_lines(alloc, &names, search_options, races, &files.progress())?;
-    let said = last_lines(alloc, &texts, search_options, request.journals, end)?;
+    let said = said_lines(alloc, &names, &texts, search_options, end)?;
     let last = joined(more, said.as_slice())?;
     let found = finding_of(&texts, refused);
-    match tell_texts(alloc, texts, last.as_slice(), request, files, out) {
+    let told = ToldTexts { texts, lines: last };
+    match tell_texts(alloc, told, saved, request, files, out) {
         Ok(()) => Ok(found),
         Err(fault) => Err(fault),
     }
@@ -116,32 +124,43 @@ pub(crate) fn finding_of(texts: &FoundTexts, refused: bool) -> SearchFinding
     SearchFinding::of(texts.claim, texts.shown.len(), stops, refused)
 }
 
-/// Tells what is said of texts, and then saves their journals where they are wanted.
+/// Tells what is said of texts, and then saves those of their journals that weren't saved before, where they are wanted; or fails for the reason for which one
+/// of those couldn't be.
 pub(crate) fn tell_texts<F: Files, O: Write>(
     alloc: Global,
-    texts: FoundTexts,
-    last: &[u8],
+    told: ToldTexts,
+    saved: SavedEarly,
     request: &RacesRequest<'_>,
     files: &mut F,
     out: &mut O,
 ) -> Result<(), CommandFault<'static>>
-    ensures told { OnOk result (Appends (O.contents out.old) (O.contents out.new) last.now) }
-    ensures saved { OnOk result (SavesAllWhereAsked (F.made files.old) (F.made files.new) (option_map (λ path. path.now) request.now.journals) (journals_of texts.shown.items (option_map (λ journal. journal.items) texts.endless))) }
+    requires { IfSome saved.fault (λ fault. IsFileStatus (file_status fault)) }
+    ensures told { OnOk result (Appends (O.contents out.old) (O.contents out.new) told.lines.items) }
+    ensures saved { (start : Option (List MadeFile)) → AreSavedEarly start (F.made files.old) (option_map (λ path. path.now) request.now.journals) saved.count (journals_of told.texts.shown.items (option_map (λ journal. journal.items) told.texts.endless)) saved.fault
+        → OnOk result (SavesAllWhereAsked start (F.made files.new) (option_map (λ path. path.now) request.now.journals) (journals_of told.texts.shown.items (option_map (λ journal. journal.items) told.texts.endless))) }
     ensures fault { IfErr result (λ fault. (status_of fault ≡ 1) ⊎ (status_of fault ≡ 6)) }
-    ensures wanting { IfErr result (λ fault. status_of fault ≡ 6 → (Keeps (O.contents out.old) (O.contents out.new) × KeepsFiles (F.made files.old) (F.made files.new))
-        ⊎ (Appends (O.contents out.old) (O.contents out.new) last.now
-        × SavesSomeWhereAsked (F.made files.old) (F.made files.new) (option_map (λ path. path.now) request.now.journals) (journals_of texts.shown.items (option_map (λ journal. journal.items) texts.endless)))) }
+    ensures wanting { (start : Option (List MadeFile)) → AreSavedEarly start (F.made files.old) (option_map (λ path. path.now) request.now.journals) saved.count (journals_of told.texts.shown.items (option_map (λ journal. journal.items) told.texts.endless)) saved.fault
+        → IfErr result (λ fault. status_of fault ≡ 6 → (Keeps (O.contents out.old) (O.contents out.new) × KeepsFiles (F.made files.old) (F.made files.new))
+        ⊎ (Appends (O.contents out.old) (O.contents out.new) told.lines.items
+        × SavesSomeWhereAsked start (F.made files.new) (option_map (λ path. path.now) request.now.journals) (journals_of told.texts.shown.items (option_map (λ journal. journal.items) told.texts.endless)))) }
 {
+    let SavedEarly { count, fault } = saved;
+    let ToldTexts { texts, lines } = told;
     let FoundTexts {
         claim: _,
         shown,
         endless,
+        ..
     } = texts;
     let journals = with_endless(alloc, shown, endless)?;
     let all = journals.as_slice();
     let (file, prefix) = (request.file, request.journals);
-    show_bytes(out, last)?;
-    save_all(alloc, all, file, prefix, files)?;
+    show_bytes(out, lines.as_slice())?;
+    match fault {
+        Some(fault) => return Err(CommandFault::Files(fault)),
+        None => {}
+    }
+    save_all(alloc, all, count, file, prefix, files)?;
     Ok(())
 }
 
@@ -213,6 +232,8 @@ fn find_texts<P: Progress>(
         stopped,
         nodes,
         endless,
+        followed_before,
+        widest,
     } = explored;
     let mut all = KnownTexts {
         shown: known,
@@ -228,6 +249,8 @@ fn find_texts<P: Progress>(
         claim,
         shown,
         endless,
+        followed_before,
+        widest,
     })
 }
 
@@ -345,7 +368,7 @@ fn is_limit(search_stop: SearchStop) -> bool
 }
 
 /// Whether it is claimed that a search met a limit.
-fn met_limit(claim: Claim) -> bool
+pub(crate) fn met_limit(claim: Claim) -> bool
     ensures { result ≡ met_limit claim }
 {
     match claim {
@@ -397,6 +420,58 @@ fn until_line(until: Option<u64>, claim: Claim, end: End) -> &'static [u8]
     }
 }
 
+/// How far a search came that left something out, if that is known.
+fn reach_of(texts: &FoundTexts) -> Option<SearchReach<'_>> {
+    let followed_before = match texts.followed_before {
+        Some(time) => time,
+        None => return None,
+    };
+    let widest = match &texts.widest {
+        Some(journal) => Some(journal.as_slice()),
+        None => None,
+    };
+    Some(SearchReach {
+        followed_before,
+        widest,
+    })
+}
+
+/// The lines on how far a search came that met a limit, if that is known; none where it met none.
+fn reach_lines(
+    alloc: Global,
+    names: &RaceNames<'_>,
+    texts: &FoundTexts,
+) -> Result<Vec<u8>, AllocError>
+    ensures { IfOk result (λ lines. IsReachTold names.entry.now.source.now texts.now.claim lines.items) }
+{
+    if !met_limit(texts.claim) {
+        return Ok(Vec::new(alloc));
+    }
+    let reach = match reach_of(texts) {
+        Some(reach) => reach,
+        None => return Ok(Vec::new(alloc)),
+    };
+    let mut lines = Vec::new(alloc);
+    push_reach(alloc, &mut lines, names.source, names.design, reach)?;
+    Ok(lines)
+}
+
+/// What is said of a search, where the first run has this end: how far it came, where it met a limit, and what is said of the texts.
+fn said_lines(
+    alloc: Global,
+    names: &RaceNames<'_>,
+    texts: &FoundTexts,
+    search_options: SearchOptions,
+    end: End,
+) -> Result<Vec<u8>, AllocError>
+    ensures { IfOk result (λ said. IsSaidLast names.entry.now.source.now search_options (option_map (λ path. path.now) names.entry.now.prefix) end texts.now.claim texts.now.shown.items said.items) }
+{
+    let reach = reach_lines(alloc, names, texts)?;
+    let last = last_lines(alloc, texts, search_options, names.prefix, end)?;
+    let said = joined(reach, last.as_slice())?;
+    Ok(said)
+}
+
 /// What is said of the texts, where the first run has this end.
 fn last_lines<'a>(
     alloc: Global,
@@ -414,6 +489,7 @@ fn last_lines<'a>(
         until: search_options.until,
         count: shown.len(),
         ends: ends_differ(shown),
+        endings: endings_of(shown),
         first: first_of(shown),
         stops: stops.as_slice(),
         prefix,

@@ -9,8 +9,8 @@
 pub enum HowFar {
     /// A run, or a journal that is followed, has so many entries, and stands at this time.
     Entries { entries: u64, time: u64 },
-    /// A search has reached so many states.
-    States { states: u64 },
+    /// A search has reached so many states, and goes on from one at this time.
+    States { states: u64, time: u64 },
     /// So many random runs were made.
     Runs { made: u64 },
 }

@@ -17,6 +17,8 @@ use Rattle.regions.specs.Machine.{MachineView, state_at}
 use Rattle.runs.specs.declared.run.RunRecord.{RunRecord}
 use Rattle.runs.specs.RunRecords.{IsRun}
 use Rattle.runs.specs.Compared.{AreLike}
+use Rattle.accesses.specs.declared.pair.Pair.{Pair}
+use Rattle.accesses.specs.Roles.{HasBothOrders}
 use Rattle.races.specs.declared.unseen.UnseenDifference.{UnseenDifference}
 
 -- a register before others, unless its two values are the same
@@ -75,14 +77,24 @@ is_at_rest Quiet = true
 is_at_rest Running = false
 is_at_rest (Stopped why) = is_stopped_at_rest why
 
+-- where two entries are told, they come in both orders in two runs, and do what is said of them
+abbrev pub ComeInBothOrders : Compiled → RunRecord → RunRecord → Option Pair → Type 0
+ComeInBothOrders code original exchanged pair =
+    IfSome pair (λ p. HasBothOrders (design_of code) original.journal.items exchanged.journal.items p.site p.time p.first p.second)
+
+-- When this time passes in two runs, these registers have other values; and where two entries are told, they come in both orders in them.
+pub record DifferByPair (code : Compiled) (original exchanged : RunRecord) (difference : UnseenDifference) : Type 0 where
+  pub differ : DifferWhenPassing code original.journal.items exchanged.journal.items difference
+  pub orders : ComeInBothOrders code original exchanged difference.pair
+
 -- Another run of the design within the limits prints what the first one prints and ends like it, at rest; and when this time passes, these registers
--- have other values.
+-- have other values. Where two entries are told, they come in both orders in the two.
 pub record IsUnseen (code : Compiled) (limits : Limits) (original : RunRecord) (difference : UnseenDifference) : Type 0 where
   pub exchanged : RunRecord
   pub run : IsRun code limits exchanged
   pub alike : AreLike original exchanged
   pub rests : IsTrue (is_at_rest exchanged.end)
-  pub differ : DifferWhenPassing code original.journal.items exchanged.journal.items difference
+  pub differ : DifferByPair code original exchanged difference
 
 -- a machine of the design stands behind so many entries of a journal
 abbrev pub StandsInRun : Compiled → List Entry → ℕ → MachineView → Type 0

@@ -163,22 +163,30 @@ impl Trials {
         None
     }
 
-    // Keeps in which registers a second run differs from the first one where no line shows it, unless such a difference was kept before.
-    fn note(&mut self, task: RaceSearch<'_>, exchanged: &RunRecord) -> Result<(), AllocError>
+    // Keeps in which registers the second run of a conflict differs from the first one where no line shows it, unless such a difference was kept
+    // before.
+    fn note(
+        &mut self,
+        task: RaceSearch<'_>,
+        conflict: &Conflict,
+        exchanged: &RunRecord,
+    ) -> Result<(), AllocError>
         requires run { IsRun task.design.now task.limits exchanged.now }
         ensures same { self.new ≡ record self.old { left = self.new.left; unseen = self.new.unseen } }
         ensures unseen { KeepsUnseen task.entry.design.now task.entry.limits task.entry.original.now self.old.unseen self.new.unseen }
     {
         if self.unseen.is_none() {
-            self.unseen = unseen_difference(task, exchanged, &mut self.left)?;
+            self.unseen = unseen_difference(task, conflict, exchanged, &mut self.left)?;
         }
         Ok(())
     }
 
-    // The second run, if it is apart from another run. Else it is looked for where it differs unseen. Fails where the second run wants memory.
+    // The second run of a conflict, if it is apart from another run. Else it is looked for where it differs unseen. Fails where the second run wants
+    // memory.
     fn apart_run(
         &mut self,
         task: RaceSearch<'_>,
+        conflict: &Conflict,
         from: &RunRecord,
         exchanged: RunRecord,
     ) -> Result<Option<RunRecord>, AllocError>
@@ -193,7 +201,7 @@ impl Trials {
         if are_apart(from, &exchanged) {
             return Ok(Some(exchanged));
         }
-        self.note(task, &exchanged)?;
+        self.note(task, conflict, &exchanged)?;
         Ok(None)
     }
 
@@ -219,7 +227,7 @@ impl Trials {
         }
         self.tried += 1;
         let made = match exchange(task, conflict, order, &mut self.left, progress)? {
-            Some(exchanged) => self.apart_run(task, from, exchanged)?,
+            Some(exchanged) => self.apart_run(task, conflict, from, exchanged)?,
             None => None,
         };
         if made.is_none() && self.left == 0 {

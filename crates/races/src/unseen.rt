@@ -6,11 +6,12 @@ ghost use Rattle.design.specs.Compiled.{design_of};
 ghost use Rattle.regions.specs.Machine.{state_at};
 ghost use Rattle.runs.specs.Compared.{AreLike};
 ghost use Rattle.runs.specs.RunRecords.{IsRun};
-ghost use Rattle.races.specs.Unseen.{DifferWhenPassing, IsUnseen, PassesBefore, PassesIn, StandsInRun, is_at_rest, is_stopped_at_rest, other_values, with_register};
+ghost use Rattle.races.specs.Unseen.{ComeInBothOrders, DifferByPair, DifferWhenPassing, IsUnseen, PassesBefore, PassesIn, StandsInRun, is_at_rest, is_stopped_at_rest, other_values, with_register};
 
 use crate::beside::{Passing, first_parting};
 use crate::race_search::RaceSearch;
-use accesses::lead;
+use accesses::{Pair, lead};
+use conflicts::{Conflict, has_both_orders};
 use design::{Design, RegId};
 use logic4::bits::Bits;
 use model::end::{End, Why};
@@ -20,11 +21,13 @@ use runs::compared::is_same;
 use runs::run::RunRecord;
 use std::alloc::{AllocError, Global};
 
-/// Registers whose values differ in two runs which print the same and end alike: when which time passes, and their numbers.
+/// Registers whose values differ in two runs which print the same and end alike: when which time passes, their numbers, and the two entries
+/// that were turned, where these come in both orders in the two.
 #[derive(Drop)]
 pub struct UnseenDifference {
     pub time: u64,
     pub registers: Vec<RegId>,
+    pub pair: Option<Pair>,
 }
 
 // Keeps a register, unless its two values are the same.
@@ -156,6 +159,7 @@ fn difference_at(
         return Ok(Some(UnseenDifference {
             time: passing.time,
             registers,
+            pair: None,
         }));
     }
     Ok(None)
@@ -258,10 +262,74 @@ fn difference_beside(
     first_difference(task.alloc, task.design, first, second)
 }
 
-/// The first difference of a second run from the first run, when a time passes, where both print the same and end alike, at rest. The entries
-/// of both are taken off those that are left to second runs then.
+// The two entries of a conflict, where they come in both orders in the first run and the second one.
+fn turned_pair(
+    task: RaceSearch<'_>,
+    conflict: &Conflict,
+    exchanged: &RunRecord,
+) -> Result<Option<Pair>, AllocError>
+    ensures { IfOk result (ComeInBothOrders task.entry.design.now task.entry.original.now exchanged.now) }
+{
+    match has_both_orders(task.alloc, task.design, conflict, task.original, exchanged) {
+        Ok(true) => Ok(Some(conflict.pair)),
+        Ok(false) => Ok(None),
+        Err(error) => Err(error),
+    }
+}
+
+// A difference of a second run from the first one, with these two entries.
+fn with_pair(found: UnseenDifference, pair: Option<Pair>) -> UnseenDifference
+    ensures time { result.time ≡ found.time }
+    ensures registers { result.registers ≡ found.registers }
+    ensures pair { result.pair ≡ pair }
+{
+    let UnseenDifference {
+        time,
+        registers,
+        pair: _,
+    } = found;
+    UnseenDifference {
+        time,
+        registers,
+        pair,
+    }
+}
+
+// A difference of a second run from the first one, with the two entries of its conflict, where they come in both orders.
+fn told_difference(
+    task: RaceSearch<'_>,
+    conflict: &Conflict,
+    exchanged: &RunRecord,
+    found: UnseenDifference,
+) -> Result<UnseenDifference, AllocError>
+    requires { DifferWhenPassing task.design.now task.original.now.journal.items exchanged.now.journal.items found }
+    ensures { IfOk result (DifferByPair task.entry.design.now task.entry.original.now exchanged.now) }
+{
+    let pair = turned_pair(task, conflict, exchanged)?;
+    Ok(with_pair(found, pair))
+}
+
+// The first difference of the second run of a conflict from the first run when a time passes, with the two entries. The entries of both runs are
+// taken off those that are left.
+fn difference_by(
+    task: RaceSearch<'_>,
+    conflict: &Conflict,
+    exchanged: &RunRecord,
+    left: &mut u64,
+) -> Result<Option<UnseenDifference>, AllocError>
+    ensures { IfOk result (λ found. IfSome found (DifferByPair task.entry.design.now task.entry.original.now exchanged.now)) }
+{
+    match difference_beside(task, exchanged, left)? {
+        Some(found) => Ok(Some(told_difference(task, conflict, exchanged, found)?)),
+        None => Ok(None),
+    }
+}
+
+/// The first difference of the second run of a conflict from the first run, when a time passes, where both print the same and end alike, at rest. The
+/// entries of both are taken off those that are left to second runs then.
 pub(crate) fn unseen_difference(
     task: RaceSearch<'_>,
+    conflict: &Conflict,
     exchanged: &RunRecord,
     left: &mut u64,
 ) -> Result<Option<UnseenDifference>, AllocError>
@@ -269,7 +337,7 @@ pub(crate) fn unseen_difference(
     ensures { IfOk result (λ found. IfSome found (IsUnseen task.entry.design.now task.entry.limits task.entry.original.now)) }
 {
     if is_alike_at_rest(task.original, exchanged) {
-        difference_beside(task, exchanged, left)
+        difference_by(task, conflict, exchanged, left)
     } else {
         Ok(None)
     }

@@ -1,5 +1,5 @@
 -- In which lines a process does something.
-use Rattle.std.specs.Prelude.{ℕ, ◌+◌, ◌==◌, List, [], ◌∷◌, Bool, true, ◌&&◌, Option, Some, None}
+use Rattle.std.specs.Prelude.{ℕ, ◌+◌, ◌==◌, List, [], ◌∷◌, Bool, true, ◌&&◌, if◌then◌else◌, Option, Some, None}
 use Rattle.std.specs.Str.{bytes_eq}
 use Rattle.locations.specs.SourceLocations.{location_of}
 use Rattle.statements.specs.declared.lines.LineRange.{LineRange}
@@ -29,3 +29,7 @@ last_byte byte (t ∷ ts) = last_byte t.byte ts
 abbrev pub lines_of_tokens : List ℕ → List PlainStatementToken → Option LineRange
 lines_of_tokens source [] = None
 lines_of_tokens source (t ∷ ts) = Some (record { first = line_of_byte source t.byte; last = line_of_byte source (last_byte t.byte ts) })
+
+-- The first byte of a token that does this, and none of another.
+abbrev pub sought_byte : StatementPart → ℕ → Option (List ℕ) → PlainStatementToken → List ℕ
+sought_byte part process name t = if is_sought part process name t then t.byte ∷ [] else []

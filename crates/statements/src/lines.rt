@@ -1,13 +1,14 @@
 //! In which lines a process does something.
 
-ghost use Rattle.std.specs.Prelude.{◌≡◌, map, if◌then◌else◌, option_map};
+ghost use Rattle.std.specs.Prelude.{◌≡◌, ◌++◌, flat_map, map, if◌then◌else◌, option_map, IfOk, OnOk};
 ghost use Rattle.std.specs.List.{filter};
 ghost use Rattle.statements.specs.PlainStatementTokens.{plain_statement_token};
-ghost use Rattle.statements.specs.StatementLines.{is_sought, is_spelled, last_byte, line_of_byte, lines_of_tokens};
+ghost use Rattle.statements.specs.StatementLines.{sought_byte, is_sought, is_spelled, last_byte, line_of_byte, lines_of_tokens};
 
 use crate::part::{StatementPart, is_part};
 use crate::statement_token::StatementToken;
 use locations::location_of_byte;
+use std::alloc::{AllocError, Global};
 
 /// What is looked for: what is done, by which process, counted from 0, and to which register, by its name, where that matters.
 #[derive(Clone, Copy)]
@@ -25,7 +26,7 @@ pub struct LineRange {
 }
 
 /// The line of a byte, counted from 1.
-fn line_of_byte(source: &[u8], byte: usize) -> usize
+pub fn line_of_byte(source: &[u8], byte: usize) -> usize
     ensures { result ≡ line_of_byte source.now byte }
 {
     location_of_byte(source, byte).line
@@ -94,4 +95,34 @@ pub fn lines_of(
         left = rest;
     }
     None
+}
+
+/// Adds the first byte of a token to others, if it does what is looked for. Fails where memory is refused.
+fn push_if_sought(
+    bytes: &mut Vec<usize>,
+    token: &StatementToken<'_>,
+    sought: &SoughtPart<'_>,
+) -> Result<(), AllocError>
+    ensures { OnOk result (bytes.new.items ≡ bytes.old.items ++ sought_byte sought.now.part sought.now.process (option_map (λ name. name.now) sought.now.name) (plain_statement_token token.now)) }
+{
+    if !is_sought(token, sought) {
+        return Ok(());
+    }
+    bytes.push(token.byte)?;
+    Ok(())
+}
+
+/// The first bytes of the tokens that do what is looked for, in their order. Fails where memory is refused.
+pub fn sought_bytes(
+    alloc: Global,
+    tokens: &[StatementToken<'_>],
+    sought: &SoughtPart<'_>,
+) -> Result<Vec<usize>, AllocError>
+    ensures { IfOk result (λ bytes. bytes.items ≡ flat_map (λ t. sought_byte sought.now.part sought.now.process (option_map (λ name. name.now) sought.now.name) (plain_statement_token t)) tokens.now) }
+{
+    let mut bytes = Vec::new(alloc);
+    for place in 0..tokens.len() {
+        push_if_sought(&mut bytes, &tokens[place], sought)?;
+    }
+    Ok(bytes)
 }

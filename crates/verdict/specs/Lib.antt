@@ -6,3 +6,5 @@ pub mod CutLines
 pub mod WaveLines
 pub mod UnseenLines
 pub mod StopLines
+pub mod EndingLines
+pub mod ReachLines

@@ -59,7 +59,7 @@ quoted_line line = quoted_back (reverse line)
 
 -- the line in which two runs differ, if not only in their ends
 abbrev pub differing_line_text : Option ℕ → List ℕ → List ℕ
-differing_line_text (Some number) line = codes ": line " ++ decimal number ++ quoted_line line
+differing_line_text (Some number) line = codes ": printed line " ++ decimal number ++ quoted_line line
 differing_line_text None line = codes ": the same lines, and another end\n"
 
 -- the path that journals begin with, where they are saved

@@ -3,6 +3,8 @@ use Rattle.std.specs.Prelude.{ℕ, ◌+◌, ◌/◌, ◌%◌, ◌==◌, Bool, tr
 use Rattle.model.specs.Journal.{newline}
 use Rattle.verdict.specs.RaceLines.{saved_journal_text}
 use Rattle.verdict.specs.StopLines.{has_stops, stops_text}
+use Rattle.verdict.specs.EndingLines.{endings_text}
+use Rattle.verdict.specs.declared.endings.RunEndings.{RunEndings}
 use Rattle.verdict.specs.declared.stops.StopDescription.{StopDescription}
 use Rattle.verdict.specs.declared.claim.SampledOrders.{SampledOrders}
 use Rattle.verdict.specs.declared.claim.Claim.{Claim}
@@ -66,20 +68,40 @@ abbrev pub limit_text : ℕ → List ℕ → List ℕ → List ℕ
 limit_text most one many = codes "a limit was met (" ++ many_text most one many
 
 -- why a search stopped: the limit that was met, or want of memory
+abbrev pub stop_phrase : SearchStop → List ℕ
+stop_phrase (States most) = limit_text most (codes " state)") (codes " states)")
+stop_phrase (Texts most) = limit_text most (codes " text)") (codes " texts)")
+stop_phrase (Entries most) = limit_text most (codes " entry)") (codes " entries)")
+stop_phrase (Megabytes most) = limit_text most (codes " MB)") (codes " MB)")
+stop_phrase Memory = codes "memory was refused"
+
+-- so it stands at the end of a line
 abbrev pub stop_text : SearchStop → List ℕ
-stop_text (States most) = limit_text most (codes " state)\n") (codes " states)\n")
-stop_text (Texts most) = limit_text most (codes " text)\n") (codes " texts)\n")
-stop_text (Entries most) = limit_text most (codes " entry)\n") (codes " entries)\n")
-stop_text (Megabytes most) = limit_text most (codes " MB)\n") (codes " MB)\n")
-stop_text Memory = codes "memory was refused\n"
+stop_text stop = stop_phrase stop ++ codes "\n"
+
+-- that an option may take a greater number, or, where there are several texts or waves, a race be mended first
+abbrev pub raise_head : ℕ → List ℕ
+raise_head count = if nat_lt 1 count then codes "; mend a race and look again, or raise " else codes "; raise "
+
+-- so it is of this option
+abbrev pub raise_text : ℕ → List ℕ → List ℕ
+raise_text count option = raise_head count ++ option
+
+-- what may be done where a search stopped: of a limit that was met the option may take a greater number
+abbrev pub next_step_text : ℕ → SearchStop → List ℕ
+next_step_text count (States most) = raise_text count (codes "--max-states\n")
+next_step_text count (Texts most) = raise_text count (codes "--max-texts\n")
+next_step_text count (Entries most) = raise_text count (codes "--max-entries\n")
+next_step_text count (Megabytes most) = raise_text count (codes "--max-memory\n")
+next_step_text count Memory = codes "\n"
 
 -- that there may be others: several texts are all that is known, and so is one or none so far
 abbrev pub open_text : ℕ → List ℕ
 open_text count = if nat_lt 1 count then codes " or more: " else codes " so far: "
 
--- so it is, and why
+-- so it is, why, and what may be done
 abbrev pub so_far_text : SearchStop → ℕ → List ℕ
-so_far_text stop count = open_text count ++ stop_text stop
+so_far_text stop count = open_text count ++ stop_phrase stop ++ next_step_text count stop
 
 -- so many random orders, with a word for one
 abbrev pub random_orders_text : ℕ → List ℕ
@@ -87,11 +109,11 @@ random_orders_text count = decimal count ++ (if count == 1 then codes " random l
 
 -- that so many random orders were tried of so many that were asked for, and why no more were
 abbrev pub fewer_text : ℕ → ℕ → SearchStop → List ℕ
-fewer_text made asked stop = codes " in " ++ decimal made ++ codes " of " ++ random_orders_text asked ++ codes " and the runs for races: " ++ stop_text stop
+fewer_text made asked stop = codes " in " ++ decimal made ++ codes " of " ++ random_orders_text asked ++ codes " and those tried to name races: " ++ stop_text stop
 
 -- that all random orders were tried that were asked for
 abbrev pub asked_text : ℕ → List ℕ
-asked_text made = codes " in " ++ random_orders_text made ++ codes " and the runs for races: others may be possible\n"
+asked_text made = codes " in " ++ random_orders_text made ++ codes " and those tried to name races: others may be possible\n"
 
 -- that random orders were tried, and why no more were, where fewer were than asked for
 abbrev pub sampled_by : ℕ → ℕ → Option SearchStop → List ℕ
@@ -126,10 +148,10 @@ run_prints false = codes " that comes to an end prints "
 run_prints true = codes " comes to an end, and every one that stops short prints "
 
 -- that every lawful run with an end prints this text, or that none has an end, and each that stops short prints it
-abbrev pub one_every : ℕ → Option ℕ → List ℕ → List StopDescription → Option ℕ → Option (List ℕ) → List ℕ
-one_every states until only stops endless prefix =
+abbrev pub one_every : ℕ → Option ℕ → RunEndings → List ℕ → List StopDescription → Option ℕ → Option (List ℕ) → List ℕ
+one_every states until endings only stops endless prefix =
     every_or_none (has_stops stops) ++ up_to until ++ run_prints (has_stops stops) ++ these_lines (lines_in only) ++ states_text states
-    ++ stops_text (codes "text ") prefix stops ++ endless_text endless prefix ++ only
+    ++ endings_text endings (has_stops stops) until ++ stops_text (codes "text ") prefix stops ++ endless_text endless prefix ++ only
 
 -- that a run with an end does so, or one that stops short, where some do
 abbrev pub run_that_ends : Bool → List ℕ
@@ -142,22 +164,23 @@ one_of_them true = codes " has one of them\n"
 one_of_them false = codes " prints one of them\n"
 
 -- that every lawful run with an end does so, of texts or of waves, as this word says
-abbrev pub many_every : Option ℕ → Bool → List ℕ → List StopDescription → Option ℕ → Option (List ℕ) → List ℕ
-many_every until ends word stops endless prefix =
-    codes ": every lawful run" ++ up_to until ++ run_that_ends (has_stops stops) ++ one_of_them ends ++ stops_text word prefix stops ++ endless_text endless prefix
+abbrev pub many_every : Option ℕ → Bool → RunEndings → List ℕ → List StopDescription → Option ℕ → Option (List ℕ) → List ℕ
+many_every until ends endings word stops endless prefix =
+    codes ": every lawful run" ++ up_to until ++ run_that_ends (has_stops stops) ++ one_of_them ends ++ endings_text endings (has_stops stops) until
+    ++ stops_text word prefix stops ++ endless_text endless prefix
 
 -- what is said of every lawful run
-abbrev pub every_text : ℕ → Option ℕ → Option ℕ → ℕ → Bool → List ℕ → List StopDescription → Option (List ℕ) → List ℕ
-every_text states endless until count ends first stops prefix =
-    if count == 0 then none_every until endless prefix else if count == 1 then one_every states until first stops endless prefix
-    else many_every until ends (codes "text ") stops endless prefix
+abbrev pub every_text : ℕ → Option ℕ → Option ℕ → ℕ → Bool → RunEndings → List ℕ → List StopDescription → Option (List ℕ) → List ℕ
+every_text states endless until count ends endings first stops prefix =
+    if count == 0 then none_every until endless prefix else if count == 1 then one_every states until endings first stops endless prefix
+    else many_every until ends endings (codes "text ") stops endless prefix
 
 -- what the texts are among those of all lawful runs, and whose runs stop short
-abbrev pub claim_text : Claim → Option ℕ → ℕ → Bool → List ℕ → List StopDescription → Option (List ℕ) → List ℕ
-claim_text (Every states endless) until count ends first stops prefix = every_text states endless until count ends first stops prefix
-claim_text (SoFar stop) until count ends first stops prefix = so_far_text stop count ++ stops_text (codes "text ") prefix stops
-claim_text (Sampled orders) until count ends first stops prefix = sampled_text orders ++ stops_text (codes "text ") prefix stops
+abbrev pub claim_text : Claim → Option ℕ → ℕ → Bool → RunEndings → List ℕ → List StopDescription → Option (List ℕ) → List ℕ
+claim_text (Every states endless) until count ends endings first stops prefix = every_text states endless until count ends endings first stops prefix
+claim_text (SoFar stop) until count ends endings first stops prefix = so_far_text stop count ++ stops_text (codes "text ") prefix stops
+claim_text (Sampled orders) until count ends endings first stops prefix = sampled_text orders ++ stops_text (codes "text ") prefix stops
 
 -- what is said of the texts: how many there are, what they are among those of all lawful runs, and whose runs stop short
-abbrev pub verdict_text : Claim → Option ℕ → ℕ → Bool → List ℕ → List StopDescription → Option (List ℕ) → List ℕ
-verdict_text claim until count ends first stops prefix = text_count_text count ends ++ claim_text claim until count ends first stops prefix
+abbrev pub verdict_text : Claim → Option ℕ → ℕ → Bool → RunEndings → List ℕ → List StopDescription → Option (List ℕ) → List ℕ
+verdict_text claim until count ends endings first stops prefix = text_count_text count ends ++ claim_text claim until count ends endings first stops prefix

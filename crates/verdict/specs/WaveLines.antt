@@ -3,6 +3,8 @@ use Rattle.std.specs.Prelude.{ℕ, ◌==◌, Bool, true, false, if◌then◌else
 use Rattle.verdict.specs.RaceLines.{quoted_line, saved_journal_text}
 use Rattle.verdict.specs.Verdicts.{endless_text, many_every, none_every, number_between, sampled_text, so_far_text, states_text, up_to}
 use Rattle.verdict.specs.StopLines.{has_stops, stops_text}
+use Rattle.verdict.specs.EndingLines.{endings_text}
+use Rattle.verdict.specs.declared.endings.RunEndings.{RunEndings}
 use Rattle.verdict.specs.declared.stops.StopDescription.{StopDescription}
 use Rattle.verdict.specs.declared.claim.Claim.{Claim}
 use Rattle.verdict.specs.declared.claim.Claim.TheVariants.{Every, SoFar, Sampled}
@@ -46,10 +48,16 @@ wave_text wave = codes "wave " ++ decimal wave.number ++ wave_site_text wave.sit
 abbrev pub wave_count_text : ℕ → List ℕ
 wave_count_text count = if count == 0 then codes "no wave" else if count == 1 then codes "one wave" else (decimal count ++ codes " waves")
 
--- that so many registers have the same values, with words for one
-abbrev pub these_registers : ℕ → List ℕ
-these_registers registers =
-    if registers == 1 then codes "this register has the same values" else number_between (codes "these ") registers (codes " registers have the same values")
+-- what stands before so many registers, by whether they are all of a design
+abbrev pub these_or_all : Bool → List ℕ
+these_or_all true = codes "all "
+these_or_all false = codes "these "
+
+-- that so many registers, which are all or not, have the same values, with words for one
+abbrev pub these_registers : Bool → ℕ → List ℕ
+these_registers all registers =
+    if registers == 1 then codes "this register has the same values whenever time passes"
+    else number_between (these_or_all all) registers (codes " registers have the same values whenever time passes")
 
 -- that the same lines are printed, with words for none and one
 abbrev pub same_lines_text : ℕ → List ℕ
@@ -62,12 +70,12 @@ abbrev pub at_times_text : ℕ → List ℕ
 at_times_text lines = same_lines_text lines ++ (if lines == 0 then codes "\n" else codes " at the same times\n")
 
 -- that so many registers have the same values, and so many lines are printed
-abbrev pub same_values_text : ℕ → ℕ → List ℕ
-same_values_text registers lines = these_registers registers ++ codes " (and " ++ same_lines_text lines ++ codes ")\n"
+abbrev pub same_values_text : Bool → ℕ → ℕ → List ℕ
+same_values_text all registers lines = these_registers all registers ++ codes " (and " ++ same_lines_text lines ++ codes ")\n"
 
 -- what is the same in every run
-abbrev pub same_text : ℕ → ℕ → List ℕ
-same_text registers lines = if registers == 0 then at_times_text lines else same_values_text registers lines
+abbrev pub same_text : Bool → ℕ → ℕ → List ℕ
+same_text all registers lines = if registers == 0 then at_times_text lines else same_values_text all registers lines
 
 -- that all lawful runs are spoken of, or that none comes to an end, where some stop short
 abbrev pub in_every_or_none : Bool → List ℕ
@@ -80,23 +88,24 @@ run_has false = codes " that comes to an end "
 run_has true = codes " comes to an end, and in every one that stops short "
 
 -- that every lawful run with an end has the same wave, or that none has an end, and each that stops short has it
-abbrev pub one_wave : ℕ → Option ℕ → ℕ → ℕ → List StopDescription → Option ℕ → Option (List ℕ) → List ℕ
-one_wave states until registers lines stops endless prefix =
-    in_every_or_none (has_stops stops) ++ up_to until ++ run_has (has_stops stops) ++ same_text registers lines ++ states_text states
-    ++ stops_text (codes "wave ") prefix stops ++ endless_text endless prefix
+abbrev pub one_wave : ℕ → Option ℕ → Bool → ℕ → ℕ → RunEndings → List StopDescription → Option ℕ → Option (List ℕ) → List ℕ
+one_wave states until all registers lines endings stops endless prefix =
+    in_every_or_none (has_stops stops) ++ up_to until ++ run_has (has_stops stops) ++ same_text all registers lines ++ states_text states
+    ++ endings_text endings (has_stops stops) until ++ stops_text (codes "wave ") prefix stops ++ endless_text endless prefix
 
 -- what is said of every lawful run
-abbrev pub every_wave_text : ℕ → Option ℕ → Option ℕ → ℕ → ℕ → ℕ → List StopDescription → Option (List ℕ) → List ℕ
-every_wave_text states endless until count registers lines stops prefix =
-    if count == 0 then none_every until endless prefix else if count == 1 then one_wave states until registers lines stops endless prefix
-    else many_every until true (codes "wave ") stops endless prefix
+abbrev pub every_wave_text : ℕ → Option ℕ → Option ℕ → ℕ → Bool → ℕ → ℕ → RunEndings → List StopDescription → Option (List ℕ) → List ℕ
+every_wave_text states endless until count all registers lines endings stops prefix =
+    if count == 0 then none_every until endless prefix else if count == 1 then one_wave states until all registers lines endings stops endless prefix
+    else many_every until true endings (codes "wave ") stops endless prefix
 
 -- what the waves are among those of all lawful runs, and whose runs stop short
-abbrev pub wave_claim_text : Claim → Option ℕ → ℕ → ℕ → ℕ → List StopDescription → Option (List ℕ) → List ℕ
-wave_claim_text (Every states endless) until count registers lines stops prefix = every_wave_text states endless until count registers lines stops prefix
-wave_claim_text (SoFar stop) until count registers lines stops prefix = so_far_text stop count ++ stops_text (codes "wave ") prefix stops
-wave_claim_text (Sampled orders) until count registers lines stops prefix = sampled_text orders ++ stops_text (codes "wave ") prefix stops
+abbrev pub wave_claim_text : Claim → Option ℕ → ℕ → Bool → ℕ → ℕ → RunEndings → List StopDescription → Option (List ℕ) → List ℕ
+wave_claim_text (Every states endless) until count all registers lines endings stops prefix =
+    every_wave_text states endless until count all registers lines endings stops prefix
+wave_claim_text (SoFar stop) until count all registers lines endings stops prefix = so_far_text stop count ++ stops_text (codes "wave ") prefix stops
+wave_claim_text (Sampled orders) until count all registers lines endings stops prefix = sampled_text orders ++ stops_text (codes "wave ") prefix stops
 
 -- what is said of the waves: how many there are, what they are among those of all lawful runs, and whose runs stop short
-abbrev pub wave_verdict_text : Claim → Option ℕ → ℕ → ℕ → ℕ → List StopDescription → Option (List ℕ) → List ℕ
-wave_verdict_text claim until count registers lines stops prefix = wave_count_text count ++ wave_claim_text claim until count registers lines stops prefix
+abbrev pub wave_verdict_text : Claim → Option ℕ → ℕ → Bool → ℕ → ℕ → RunEndings → List StopDescription → Option (List ℕ) → List ℕ
+wave_verdict_text claim until count all registers lines endings stops prefix = wave_count_text count ++ wave_claim_text claim until count all registers lines endings stops prefix

@@ -41,7 +41,10 @@ pub fn push_line_order(
 }
 
 /// Puts processes behind a text, with a comma between two of them and a word before the last.
-fn push_printers(text: &mut Vec<u8>, printers: &[PrinterDescription]) -> Result<(), AllocError>
+pub(crate) fn push_printers(
+    text: &mut Vec<u8>,
+    printers: &[PrinterDescription],
+) -> Result<(), AllocError>
     ensures { OnOk result (text.new.items ≡ text.old.items ++ printers_text printers.now) }
 {
     match printers.split_first() {
@@ -91,7 +94,10 @@ fn separator(left: usize) -> &'static [u8]
 }
 
 /// Puts a process behind a text, with its line, if that is known.
-fn push_printer(text: &mut Vec<u8>, printer: PrinterDescription) -> Result<(), AllocError>
+pub(crate) fn push_printer(
+    text: &mut Vec<u8>,
+    printer: PrinterDescription,
+) -> Result<(), AllocError>
     ensures { OnOk result (text.new.items ≡ text.old.items ++ printer_text printer) }
 {
     push_number(text, u64::from(printer.number))?;

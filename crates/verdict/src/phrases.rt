@@ -1,7 +1,7 @@
 //! Parts of the lines on texts.
 
 ghost use Rattle.std.specs.Prelude.{◌≡◌, ◌<◌, ◌++◌, OnOk, decimal};
-ghost use Rattle.verdict.specs.Verdicts.{text_count_text, group, grouped, limit_text, lines_in, many_text, number_between, stop_text, several_text, states_text, these_lines, thousands, up_to, up_to_time};
+ghost use Rattle.verdict.specs.Verdicts.{text_count_text, group, grouped, limit_text, lines_in, many_text, number_between, stop_phrase, stop_text, several_text, states_text, these_lines, thousands, up_to, up_to_time};
 
 use crate::claim::SearchStop;
 use itoa::Buffer;
@@ -159,14 +159,22 @@ pub(crate) fn push_limit(
 }
 
 /// Why a search stopped.
+pub(crate) fn push_stop_phrase(text: &mut Vec<u8>, stop: SearchStop) -> Result<(), AllocError>
+    ensures { OnOk result (text.new.items ≡ text.old.items ++ stop_phrase stop) }
+{
+    match stop {
+        SearchStop::States(most) => push_limit(text, most as u64, b" state)", b" states)"),
+        SearchStop::Texts(most) => push_limit(text, most as u64, b" text)", b" texts)"),
+        SearchStop::Entries(most) => push_limit(text, most as u64, b" entry)", b" entries)"),
+        SearchStop::Megabytes(most) => push_limit(text, most as u64, b" MB)", b" MB)"),
+        SearchStop::Memory => text.extend_from_slice(b"memory was refused"),
+    }
+}
+
+/// Why a search stopped, at the end of a line.
 pub(crate) fn push_stop(text: &mut Vec<u8>, stop: SearchStop) -> Result<(), AllocError>
     ensures { OnOk result (text.new.items ≡ text.old.items ++ stop_text stop) }
 {
-    match stop {
-        SearchStop::States(most) => push_limit(text, most as u64, b" state)\n", b" states)\n"),
-        SearchStop::Texts(most) => push_limit(text, most as u64, b" text)\n", b" texts)\n"),
-        SearchStop::Entries(most) => push_limit(text, most as u64, b" entry)\n", b" entries)\n"),
-        SearchStop::Megabytes(most) => push_limit(text, most as u64, b" MB)\n", b" MB)\n"),
-        SearchStop::Memory => text.extend_from_slice(b"memory was refused\n"),
-    }
+    push_stop_phrase(text, stop)?;
+    text.extend_from_slice(b"\n")
 }

@@ -196,7 +196,7 @@ fn push_difference(text: &mut Vec<u8>, number: Option<usize>, line: &[u8]) -> Re
 pub fn push_line(text: &mut Vec<u8>, number: usize, line: &[u8]) -> Result<(), AllocError>
     ensures { OnOk result (text.new.items ≡ text.old.items ++ differing_line_text (Some number) line.now) }
 {
-    text.extend_from_slice(b": line ")?;
+    text.extend_from_slice(b": printed line ")?;
     push_number(text, number as u64)?;
     push_quoted(text, line)
 }

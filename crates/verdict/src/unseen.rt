@@ -1,25 +1,48 @@
 //! The line on registers whose values differ where no line shows it.
 
 ghost use Rattle.std.specs.Prelude.{◌≡◌, ◌++◌, OnOk};
-ghost use Rattle.verdict.specs.UnseenLines.{differ_at_text, unseen_line_text};
+ghost use Rattle.verdict.specs.UnseenLines.{differ_at_text, raced_pair_text, unseen_line_text};
 
+use crate::order::{PrinterDescription, push_printer};
 use crate::phrases::push_number;
 use std::alloc::AllocError;
 
-/// Puts the line on so many registers of these names, which differ when a time passes, behind a text.
+/// Puts for what two processes race, when, and which two they are behind a text, as it stands before registers that differ by that.
+pub fn push_raced_pair(
+    text: &mut Vec<u8>,
+    site: &[u8],
+    time: u64,
+    first: PrinterDescription,
+    second: PrinterDescription,
+) -> Result<(), AllocError>
+    ensures { OnOk result (text.new.items ≡ text.old.items ++ raced_pair_text site.now time first second) }
+{
+    text.extend_from_slice(site)?;
+    text.extend_from_slice(b", time ")?;
+    push_number(text, time)?;
+    text.extend_from_slice(b", processes ")?;
+    push_printer(text, first)?;
+    text.extend_from_slice(b" and ")?;
+    push_printer(text, second)?;
+    text.extend_from_slice(b"; ")
+}
+
+/// Puts the line on so many registers of these names, which differ when a time passes, behind a text, with this before the names.
 pub fn push_unseen_line(
     text: &mut Vec<u8>,
+    race: &[u8],
     names: &[u8],
     count: usize,
     time: u64,
 ) -> Result<(), AllocError>
-    ensures { OnOk result (text.new.items ≡ text.old.items ++ unseen_line_text names.now count time) }
+    ensures { OnOk result (text.new.items ≡ text.old.items ++ unseen_line_text race.now names.now count time) }
 {
-    text.extend_from_slice(b"not compared: ")?;
+    text.extend_from_slice(b"a race that no line shows: ")?;
+    text.extend_from_slice(race)?;
     text.extend_from_slice(names)?;
     text.extend_from_slice(differ_at(count))?;
     push_number(text, time)?;
-    text.extend_from_slice(b" (--observe registers)\n")
+    text.extend_from_slice(b": not compared (--observe registers)\n")
 }
 
 /// That so many registers differ at a time, with a word for one.

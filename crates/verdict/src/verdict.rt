@@ -2,11 +2,12 @@
 
 ghost use Rattle.std.specs.Prelude.{◌≡◌, ◌++◌, OnOk, codes, option_map};
 ghost use Rattle.verdict.specs.StopLines.{stops_text};
-ghost use Rattle.verdict.specs.Verdicts.{asked_text, claim_text, endless_text, every_or_none, fewer_text, many_every, none_every, one_of_them, one_every, open_text, random_orders_text, run_prints, run_that_ends, sampled_text, so_far_text, verdict_text};
+ghost use Rattle.verdict.specs.Verdicts.{asked_text, claim_text, endless_text, every_or_none, fewer_text, many_every, next_step_text, none_every, one_of_them, one_every, open_text, raise_head, raise_text, random_orders_text, run_prints, run_that_ends, sampled_text, so_far_text, verdict_text};
 
 use crate::claim::{Claim, SampledOrders, SearchStop};
+use crate::endings::{RunEndings, push_endings};
 use crate::phrases::{
-    push_count, push_number, push_states, push_stop, push_these_lines, push_up_to,
+    push_count, push_number, push_states, push_stop, push_stop_phrase, push_these_lines, push_up_to,
 };
 use crate::race::push_journal;
 use crate::stops::{StopDescription, has_stops, push_stops};
@@ -22,6 +23,8 @@ pub struct Verdict<'a> {
     pub count: usize,
     /// Whether some of them end in different ways.
     pub ends: bool,
+    /// How the runs of the texts end.
+    pub endings: RunEndings,
     /// The first text, if there is one.
     pub first: &'a [u8],
     /// Those of the texts whose runs stop short.
@@ -32,7 +35,7 @@ pub struct Verdict<'a> {
 
 /// Puts the verdict behind a text. Where there is one text and no other is possible, that text is the end of it.
 pub fn push_verdict(text: &mut Vec<u8>, verdict: &Verdict<'_>) -> Result<(), AllocError>
-    ensures { OnOk result (text.new.items ≡ text.old.items ++ verdict_text verdict.entry.now.claim verdict.entry.now.until verdict.entry.now.count verdict.entry.now.ends verdict.entry.now.first.now verdict.entry.now.stops.now (option_map (λ path. path.now) verdict.entry.now.prefix)) }
+    ensures { OnOk result (text.new.items ≡ text.old.items ++ verdict_text verdict.entry.now.claim verdict.entry.now.until verdict.entry.now.count verdict.entry.now.ends verdict.entry.now.endings verdict.entry.now.first.now verdict.entry.now.stops.now (option_map (λ path. path.now) verdict.entry.now.prefix)) }
 {
     push_count(text, verdict.count, verdict.ends)?;
     push_claim(text, verdict)
@@ -40,7 +43,7 @@ pub fn push_verdict(text: &mut Vec<u8>, verdict: &Verdict<'_>) -> Result<(), All
 
 /// What the texts are among those of all lawful runs, behind their number.
 fn push_claim(text: &mut Vec<u8>, verdict: &Verdict<'_>) -> Result<(), AllocError>
-    ensures { OnOk result (text.new.items ≡ text.old.items ++ claim_text verdict.entry.now.claim verdict.entry.now.until verdict.entry.now.count verdict.entry.now.ends verdict.entry.now.first.now verdict.entry.now.stops.now (option_map (λ path. path.now) verdict.entry.now.prefix)) }
+    ensures { OnOk result (text.new.items ≡ text.old.items ++ claim_text verdict.entry.now.claim verdict.entry.now.until verdict.entry.now.count verdict.entry.now.ends verdict.entry.now.endings verdict.entry.now.first.now verdict.entry.now.stops.now (option_map (λ path. path.now) verdict.entry.now.prefix)) }
 {
     match verdict.claim {
         Claim::Every { states, endless } => match verdict.count {
@@ -77,7 +80,7 @@ fn push_samples(
     push_stops(text, b"text ", verdict.prefix, verdict.stops)
 }
 
-/// That there may be other texts, and why.
+/// That there may be other texts, why, and what may be done.
 pub(crate) fn push_so_far(
     text: &mut Vec<u8>,
     stop: SearchStop,
@@ -86,7 +89,40 @@ pub(crate) fn push_so_far(
     ensures { OnOk result (text.new.items ≡ text.old.items ++ so_far_text stop count) }
 {
     text.extend_from_slice(open_text(count))?;
-    push_stop(text, stop)
+    push_stop_phrase(text, stop)?;
+    push_next_step(text, stop, count)
+}
+
+/// What may be done where a search stopped: of a limit that was met the option may take a greater number.
+fn push_next_step(text: &mut Vec<u8>, stop: SearchStop, count: usize) -> Result<(), AllocError>
+    ensures { OnOk result (text.new.items ≡ text.old.items ++ next_step_text count stop) }
+{
+    match stop {
+        SearchStop::States(_) => push_raise(text, count, b"--max-states\n"),
+        SearchStop::Texts(_) => push_raise(text, count, b"--max-texts\n"),
+        SearchStop::Entries(_) => push_raise(text, count, b"--max-entries\n"),
+        SearchStop::Megabytes(_) => push_raise(text, count, b"--max-memory\n"),
+        SearchStop::Memory => text.extend_from_slice(b"\n"),
+    }
+}
+
+/// That an option may take a greater number.
+fn push_raise(text: &mut Vec<u8>, count: usize, option: &[u8]) -> Result<(), AllocError>
+    ensures { OnOk result (text.new.items ≡ text.old.items ++ raise_text count option.now) }
+{
+    text.extend_from_slice(raise_head(count))?;
+    text.extend_from_slice(option)
+}
+
+/// What stands before the option, where there are so many texts or waves: that a race may be mended first, where there are several.
+fn raise_head(count: usize) -> &'static [u8]
+    ensures { result.now ≡ raise_head count }
+{
+    if 1 < count {
+        b"; mend a race and look again, or raise "
+    } else {
+        b"; raise "
+    }
 }
 
 /// What stands before the reason for which there may be other texts: there are more than one already, or not.
@@ -116,7 +152,7 @@ fn push_asked(text: &mut Vec<u8>, made: u32) -> Result<(), AllocError>
 {
     text.extend_from_slice(b" in ")?;
     push_orders(text, made)?;
-    text.extend_from_slice(b" and the runs for races: others may be possible\n")
+    text.extend_from_slice(b" and those tried to name races: others may be possible\n")
 }
 
 /// That so many random orders were tried of so many that were asked for, and why no more were.
@@ -127,7 +163,7 @@ fn push_fewer(text: &mut Vec<u8>, made: u32, asked: u32, stop: SearchStop) -> Re
     push_number(text, made as u64)?;
     text.extend_from_slice(b" of ")?;
     push_orders(text, asked)?;
-    text.extend_from_slice(b" and the runs for races: ")?;
+    text.extend_from_slice(b" and those tried to name races: ")?;
     push_stop(text, stop)
 }
 
@@ -183,7 +219,7 @@ fn push_one(
     states: u64,
     endless: Option<usize>,
 ) -> Result<(), AllocError>
-    ensures { OnOk result (text.new.items ≡ text.old.items ++ one_every states verdict.entry.now.until verdict.entry.now.first.now verdict.entry.now.stops.now endless (option_map (λ path. path.now) verdict.entry.now.prefix)) }
+    ensures { OnOk result (text.new.items ≡ text.old.items ++ one_every states verdict.entry.now.until verdict.entry.now.endings verdict.entry.now.first.now verdict.entry.now.stops.now endless (option_map (λ path. path.now) verdict.entry.now.prefix)) }
 {
     let some = has_stops(verdict.stops);
     text.extend_from_slice(every_or_none(some))?;
@@ -191,6 +227,7 @@ fn push_one(
     text.extend_from_slice(run_prints(some))?;
     push_these_lines(text, verdict.first)?;
     push_states(text, states)?;
+    push_endings(text, verdict.endings, some, verdict.until)?;
     push_stops(text, b"text ", verdict.prefix, verdict.stops)?;
     push_endless(text, endless, verdict.prefix)?;
     text.extend_from_slice(verdict.first)
@@ -223,13 +260,14 @@ pub(crate) fn push_many(
     word: &[u8],
     endless: Option<usize>,
 ) -> Result<(), AllocError>
-    ensures { OnOk result (text.new.items ≡ text.old.items ++ many_every verdict.entry.now.until verdict.entry.now.ends word.now verdict.entry.now.stops.now endless (option_map (λ path. path.now) verdict.entry.now.prefix)) }
+    ensures { OnOk result (text.new.items ≡ text.old.items ++ many_every verdict.entry.now.until verdict.entry.now.ends verdict.entry.now.endings word.now verdict.entry.now.stops.now endless (option_map (λ path. path.now) verdict.entry.now.prefix)) }
 {
     let some = has_stops(verdict.stops);
     text.extend_from_slice(b": every lawful run")?;
     push_up_to(text, verdict.until)?;
     text.extend_from_slice(run_that_ends(some))?;
     text.extend_from_slice(one_of_them(verdict.ends))?;
+    push_endings(text, verdict.endings, some, verdict.until)?;
     push_stops(text, word, verdict.prefix, verdict.stops)?;
     push_endless(text, endless, verdict.prefix)
 }

@@ -1,11 +1,12 @@
 //! The lines on waves: what two runs have in common where more or less than their lines, in order, is compared.
 
 ghost use Rattle.std.specs.Prelude.{◌≡◌, ◌++◌, OnOk, codes, decimal, option_map, true};
-ghost use Rattle.verdict.specs.WaveLines.{at_times_text, one_wave, register_parting_text, same_lines_text, same_text, side_text, sides_of, sides_text, these_registers, same_values_text, in_every_or_none, run_has, wave_claim_text, wave_count_text, wave_site_text, wave_text, wave_verdict_text};
+ghost use Rattle.verdict.specs.WaveLines.{at_times_text, one_wave, register_parting_text, same_lines_text, same_text, side_text, sides_of, sides_text, these_or_all, these_registers, same_values_text, in_every_or_none, run_has, wave_claim_text, wave_count_text, wave_site_text, wave_text, wave_verdict_text};
 ghost use Rattle.verdict.specs.StopLines.{stops_text};
 ghost use Rattle.verdict.specs.Verdicts.{many_every, sampled_text, so_far_text};
 
 use crate::claim::{Claim, SampledOrders, SearchStop};
+use crate::endings::{RunEndings, push_endings};
 use crate::phrases::{push_between, push_number, push_states, push_up_to};
 use crate::race::{push_journal, push_quoted};
 use crate::stops::{StopDescription, has_stops, push_stops};
@@ -20,10 +21,14 @@ pub struct WaveVerdict<'a> {
     pub until: Option<u64>,
     /// How many waves with their ends were found.
     pub count: usize,
+    /// Whether all registers of the design are observed.
+    pub all: bool,
     /// How many registers are observed.
     pub registers: usize,
     /// How many lines are printed in a run that has the first wave.
     pub lines: usize,
+    /// How the runs of the waves end.
+    pub endings: RunEndings,
     /// Those of the waves whose runs stop short.
     pub stops: &'a [StopDescription],
     /// The path that journals begin with, where they are saved.
@@ -120,7 +125,7 @@ fn push_side(
 
 /// Puts what is said of waves behind a text.
 pub fn push_wave_verdict(text: &mut Vec<u8>, verdict: &WaveVerdict<'_>) -> Result<(), AllocError>
-    ensures { OnOk result (text.new.items ≡ text.old.items ++ wave_verdict_text verdict.entry.now.claim verdict.entry.now.until verdict.entry.now.count verdict.entry.now.registers verdict.entry.now.lines verdict.entry.now.stops.now (option_map (λ path. path.now) verdict.entry.now.prefix)) }
+    ensures { OnOk result (text.new.items ≡ text.old.items ++ wave_verdict_text verdict.entry.now.claim verdict.entry.now.until verdict.entry.now.count verdict.entry.now.all verdict.entry.now.registers verdict.entry.now.lines verdict.entry.now.endings verdict.entry.now.stops.now (option_map (λ path. path.now) verdict.entry.now.prefix)) }
 {
     push_wave_count(text, verdict.count)?;
     push_wave_claim(text, verdict)
@@ -147,7 +152,7 @@ fn push_waves(text: &mut Vec<u8>, count: usize) -> Result<(), AllocError>
 
 /// What the waves are among those of all lawful runs, behind their number.
 fn push_wave_claim(text: &mut Vec<u8>, verdict: &WaveVerdict<'_>) -> Result<(), AllocError>
-    ensures { OnOk result (text.new.items ≡ text.old.items ++ wave_claim_text verdict.entry.now.claim verdict.entry.now.until verdict.entry.now.count verdict.entry.now.registers verdict.entry.now.lines verdict.entry.now.stops.now (option_map (λ path. path.now) verdict.entry.now.prefix)) }
+    ensures { OnOk result (text.new.items ≡ text.old.items ++ wave_claim_text verdict.entry.now.claim verdict.entry.now.until verdict.entry.now.count verdict.entry.now.all verdict.entry.now.registers verdict.entry.now.lines verdict.entry.now.endings verdict.entry.now.stops.now (option_map (λ path. path.now) verdict.entry.now.prefix)) }
 {
     match verdict.claim {
         Claim::Every { states, endless } => match verdict.count {
@@ -190,13 +195,14 @@ fn push_many_waves(
     verdict: &WaveVerdict<'_>,
     endless: Option<usize>,
 ) -> Result<(), AllocError>
-    ensures { OnOk result (text.new.items ≡ text.old.items ++ many_every verdict.entry.now.until true (codes "wave ") verdict.entry.now.stops.now endless (option_map (λ path. path.now) verdict.entry.now.prefix)) }
+    ensures { OnOk result (text.new.items ≡ text.old.items ++ many_every verdict.entry.now.until true verdict.entry.now.endings (codes "wave ") verdict.entry.now.stops.now endless (option_map (λ path. path.now) verdict.entry.now.prefix)) }
 {
     let texts = Verdict {
         claim: verdict.claim,
         until: verdict.until,
         count: verdict.count,
         ends: true,
+        endings: verdict.endings,
         first: &[],
         stops: verdict.stops,
         prefix: verdict.prefix,
@@ -211,14 +217,15 @@ fn push_one_wave(
     states: u64,
     endless: Option<usize>,
 ) -> Result<(), AllocError>
-    ensures { OnOk result (text.new.items ≡ text.old.items ++ one_wave states verdict.entry.now.until verdict.entry.now.registers verdict.entry.now.lines verdict.entry.now.stops.now endless (option_map (λ path. path.now) verdict.entry.now.prefix)) }
+    ensures { OnOk result (text.new.items ≡ text.old.items ++ one_wave states verdict.entry.now.until verdict.entry.now.all verdict.entry.now.registers verdict.entry.now.lines verdict.entry.now.endings verdict.entry.now.stops.now endless (option_map (λ path. path.now) verdict.entry.now.prefix)) }
 {
     let some = has_stops(verdict.stops);
     text.extend_from_slice(in_every_or_none(some))?;
     push_up_to(text, verdict.until)?;
     text.extend_from_slice(run_has(some))?;
-    push_same(text, verdict.registers, verdict.lines)?;
+    push_same(text, verdict.all, verdict.registers, verdict.lines)?;
     push_states(text, states)?;
+    push_endings(text, verdict.endings, some, verdict.until)?;
     push_stops(text, b"wave ", verdict.prefix, verdict.stops)?;
     push_endless(text, endless, verdict.prefix)
 }
@@ -244,37 +251,57 @@ fn run_has(stops: bool) -> &'static [u8]
 }
 
 /// What is the same in every run: the values of so many registers and so many lines, or the lines alone.
-fn push_same(text: &mut Vec<u8>, registers: usize, lines: usize) -> Result<(), AllocError>
-    ensures { OnOk result (text.new.items ≡ text.old.items ++ same_text registers lines) }
+fn push_same(
+    text: &mut Vec<u8>,
+    all: bool,
+    registers: usize,
+    lines: usize,
+) -> Result<(), AllocError>
+    ensures { OnOk result (text.new.items ≡ text.old.items ++ same_text all registers lines) }
 {
     match registers {
         0 => push_at_times(text, lines),
-        _ => push_values(text, registers, lines),
+        _ => push_values(text, all, registers, lines),
     }
 }
 
-/// That so many registers have the same values, and so many lines are printed.
-fn push_values(text: &mut Vec<u8>, registers: usize, lines: usize) -> Result<(), AllocError>
-    ensures { OnOk result (text.new.items ≡ text.old.items ++ same_values_text registers lines) }
+/// That so many registers, which are all or not, have the same values, and so many lines are printed.
+fn push_values(
+    text: &mut Vec<u8>,
+    all: bool,
+    registers: usize,
+    lines: usize,
+) -> Result<(), AllocError>
+    ensures { OnOk result (text.new.items ≡ text.old.items ++ same_values_text all registers lines) }
 {
-    push_these_registers(text, registers)?;
+    push_these_registers(text, all, registers)?;
     text.extend_from_slice(b" (and ")?;
     push_same_lines(text, lines)?;
     text.extend_from_slice(b")\n")
 }
 
-/// That so many registers have the same values.
-fn push_these_registers(text: &mut Vec<u8>, registers: usize) -> Result<(), AllocError>
-    ensures { OnOk result (text.new.items ≡ text.old.items ++ these_registers registers) }
+/// That so many registers, which are all or not, have the same values.
+fn push_these_registers(text: &mut Vec<u8>, all: bool, registers: usize) -> Result<(), AllocError>
+    ensures { OnOk result (text.new.items ≡ text.old.items ++ these_registers all registers) }
 {
     match registers {
-        1 => text.extend_from_slice(b"this register has the same values"),
+        1 => text.extend_from_slice(b"this register has the same values whenever time passes"),
         _ => push_between(
             text,
-            b"these ",
+            these_or_all(all),
             registers as u64,
-            b" registers have the same values",
+            b" registers have the same values whenever time passes",
         ),
+    }
+}
+
+/// What stands before so many registers, by whether they are all of a design.
+fn these_or_all(all: bool) -> &'static [u8]
+    ensures { result.now ≡ these_or_all all }
+{
+    match all {
+        true => b"all ",
+        false => b"these ",
     }
 }
 

@@ -20,6 +20,10 @@ pub(super) const DISPLAYS: &str =
 pub(super) const WRITERS: &str =
     "module t; reg a; initial a=1'b0; initial a=1'b1; initial #0 $display(\"%b\",a); endmodule";
 
+/// A process reads a register which another one writes.
+pub(super) const RACE: &str =
+    "module t; reg a; initial a = 1'b1; initial $display(\"%b\", a); endmodule";
+
 /// A process prints a line again and again.
 pub(super) const CLOCK: &str = "module t; always #10 $display(\"t\"); endmodule";
 

@@ -6,7 +6,7 @@
 //! rest.
 
 use super::claims::{fail, holds, holds_as, holds_of};
-use super::sources::NO_ENTRY;
+use super::sources::{NO_ENTRY, RACE};
 use super::{
     EXPLAIN, Expected, ONE_WORKER, REPLAY, Shared, Target, TextPattern, WAVES, repeated, status_of,
     tells, words_of,
@@ -409,12 +409,10 @@ fn tells_that_no_worker_starts(rt: HostRuntime) {
     assert_lost(&rt, rt.alloc(), asked, &places, "sfF", wanted);
 }
 
-const RACE: &str = "module t; reg a; initial a = 1'b1; initial $display(\"%b\", a); endmodule";
-
 /// What is told of the race before the search, and that memory was refused.
 const NAMED: Expected<'static> = Expected {
     status: 6,
-    out: "race 1: register a, time 0\n  process 0, initial at line 1, writes it at line 1\n  process 1, initial at line 1, reads it at line 1\n  the first before the second: line 1 is `1`\n  the second before the first: line 1 is `x`\n",
+    out: "race 1: register a, time 0\n  process 0, initial at line 1, writes it at line 1\n  process 1, initial at line 1, reads it at line 1\n  the first before the second: printed line 1 is `1`\n  the second before the first: printed line 1 is `x`\n",
     err: "vsimtx: memory\n",
 };
 

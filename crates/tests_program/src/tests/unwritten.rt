@@ -1,8 +1,11 @@
 //! Output that fails behind some bytes: there is no room for more, or what was written can't be flushed. The bytes stay, and that
 //! is told.
 
-use super::sources::{CLOCK, EMPTY, HI, NO_ENTRY, ONE_TURN};
-use super::{CANNOT_WRITE, EXPLAIN, Expected, REPLAY, SAVE, Setting, assert_in, over_journal};
+use super::sources::{CLOCK, EMPTY, HI, NO_ENTRY, ONE_TURN, RACE};
+use super::{
+    CANNOT_WRITE, EXPLAIN, Expected, REPLAY, SAVE, Setting, assert_in, assert_made, over,
+    over_journal,
+};
 use std::alloc::Global;
 use std::process::Abort;
 use std::sync::Wait;
@@ -80,4 +83,27 @@ fn tells_that_output_cannot_be_flushed(rt: HostRuntime) {
         };
         assert_unwritten(&rt, rt.alloc(), line, unflushed, out);
     }
+}
+
+/// What is told of the race before a search, with the journals of its texts.
+const RACE_TOLD: &str =
+    "race 1: register a, time 0\n  process 0, initial at line 1, writes it at line 1\n  process 1, initial at line 1, reads it at line 1\n  the first before the second (OUT.1.journal): printed line 1 is `1`\n  the second before the first (OUT.2.journal): printed line 1 is `x`\n";
+
+/// The journal of the second text.
+const TURNED: &[u8] = b"vsimtx-journal 2\nT 1\nT 0\nE 2\n";
+
+/// The journals of the texts that are known before a search stand where nothing can be written that is said behind it.
+#[test]
+fn journals_stand_before_a_search(rt: HostRuntime) {
+    let line = "vsimtx races t.v --journals OUT";
+    let cut = Setting {
+        out_room: RACE_TOLD.len(),
+        ..over(RACE)
+    };
+    let wanted = Expected {
+        status: 1,
+        out: RACE_TOLD,
+        err: CANNOT_WRITE,
+    };
+    assert_made(&rt, rt.alloc(), line, &cut, wanted, TURNED);
 }

@@ -27,7 +27,7 @@ const RACE: &[u8] =
     b"module t; reg a; initial a=1'b0; initial a=1'b1; initial #1 $display(\"%b\",a); endmodule";
 
 /// A search: of which design, up to which time, at which bounds. Then the texts of the design's runs, how many of them are shown,
-/// why there may be others, and whether some orders don't come to an end.
+/// why there may be others, before which time nothing was left out, and whether some orders don't come to an end.
 #[derive(Clone, Copy)]
 struct SearchRow<'a> {
     source: &'a [u8],
@@ -37,6 +37,7 @@ struct SearchRow<'a> {
     texts: &'a [&'a str],
     shown: usize,
     stopped: &'a str,
+    before: Option<u64>,
     endless: bool,
 }
 
@@ -53,6 +54,7 @@ const PLAIN: SearchRow<'static> = SearchRow {
     texts: &["0\n", "1\n"],
     shown: 2,
     stopped: "",
+    before: None,
     endless: false,
 };
 
@@ -133,6 +135,7 @@ const ROWS: &[SearchRow<'static>] = &[
         texts: &[],
         shown: 0,
         stopped: "entries",
+        before: Some(0),
         ..PLAIN
     },
     // where the first process is the last, it shows a line and then waits for no time again and again
@@ -161,6 +164,7 @@ const ROWS: &[SearchRow<'static>] = &[
         texts: &[],
         shown: 0,
         stopped: "entries",
+        before: Some(20),
         ..PLAIN
     },
     // one order, of 40,001 entries
@@ -181,6 +185,7 @@ const ROWS: &[SearchRow<'static>] = &[
         },
         shown: 1,
         stopped: "texts",
+        before: Some(1),
         ..PLAIN
     },
     // the first node alone, behind which two orders differ
@@ -192,6 +197,7 @@ const ROWS: &[SearchRow<'static>] = &[
         },
         shown: 0,
         stopped: "nodes",
+        before: Some(0),
         ..PLAIN
     },
     // no room for what is kept of a node
@@ -203,6 +209,7 @@ const ROWS: &[SearchRow<'static>] = &[
         },
         shown: 0,
         stopped: "bytes",
+        before: Some(0),
         ..PLAIN
     },
     // fewer entries than a run has
@@ -210,6 +217,7 @@ const ROWS: &[SearchRow<'static>] = &[
         entries: 3,
         shown: 0,
         stopped: "entries",
+        before: Some(0),
         ..PLAIN
     },
 ];
@@ -265,6 +273,7 @@ fn assert_found(rt: &impl Abort, found: &Explored<Entry, End>, row: &SearchRow<'
     assert_length(rt, found.shown.len(), row.shown);
     assert_texts(rt, &found.shown, row.texts);
     holds(rt, reason_of(found) == row.stopped, "another reason");
+    holds(rt, found.followed_before == row.before, "another time");
     holds(rt, found.endless.is_some() == row.endless, "an end");
 }
 

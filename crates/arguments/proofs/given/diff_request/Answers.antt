@@ -6,4 +6,5 @@ returns c = record {
   file = c.given_word.ensures;
   first = c.given_word-2.ensures;
   second = c.given_word-3.ensures;
+  all_times = c.given_flag.ensures;
 }

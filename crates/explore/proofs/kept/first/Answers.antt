@@ -6,6 +6,7 @@ use Rattle.explore.specs.Grown.{IsLastPart}
 use Rattle.explore.specs.declared.kept.Reached.{Reached}
 use Rattle.explore.specs.declared.recent.Placed.{Placed}
 use Rattle.explore.proofs.Keeping.{AreKept-first, keys_first}
+use Rattle.explore.proofs.Open.{AreTimed-first}
 use Rattle.explore.proofs.kept.first.Goals as goal
 
 pub returns-clause-kept : goal.returns-clause-kept
@@ -25,3 +26,10 @@ returns-clause-waits g c =
     let p : Reached = record { number = 0; text = 0 } in
     subst (λ (l : List Reached). Any (λ x. x.number ≡ 0) l) (sym c.in_ok-push.ensures.items)
     (Any-push (λ (x : Reached). x.number ≡ 0) c.new-pending.result.items p refl)
+
+pub returns-clause-timed : goal.returns-clause-timed
+returns-clause-timed g c =
+    let orders = c.args.scope.orders.now in
+    let time = c.time-time.result in
+    let times : c.add-2.new.self.times.items ≡ time ∷ [] = c.in_ok-add.ensures.times ∙ ap (λ (l : List ℕ). l ++ time ∷ []) c.new-links.ensures.times in
+    AreTimed-first (g.O.Orders.runs orders) (g.O.Orders.time_of orders) _ _ c.in_ok-node.node time c.new.ensures.ways times c.in_ok-node.ensures c.time-time.ensures

@@ -4,6 +4,7 @@ use Rattle.explore.specs.Grown.{grown}
 use Rattle.explore.specs.Links.{IsUnmarked}
 use Rattle.explore.specs.NumberedTexts.{texts}
 use Rattle.explore.specs.Lineage.{ways}
+use Rattle.explore.specs.Reach.{AreTimed}
 use Rattle.explore.specs.Pieces.{pieces}
 use Rattle.explore.specs.Visited.{IsThere, visits}
 use Rattle.explore.specs.SearchKept.{IsText}
@@ -14,6 +15,7 @@ use Rattle.explore.proofs.Keeping.{AreKept-texts, Grows-texts, IsText-next, IsVi
 use Rattle.explore.proofs.Continuing.{found_at, there_leads, pushed_leads, never_false}
 use Rattle.explore.proofs.Edges.{unmarked_before}
 use Rattle.explore.proofs.Growing.{length-grown}
+use Rattle.explore.proofs.Open.{AreTimed-push}
 use Rattle.explore.proofs.kept.follow.Goals as goal
 
 pub returns-then-number-scope-clause-further : goal.returns-then-number-scope-clause-further
@@ -105,3 +107,23 @@ returns-clause-leads g c _ =
     let next = c.args.next in
     let added : ways c.push.new.self ≡ grown (ways old.lineage) c.args.from.number next.moves.items = c.in_ok-push.ensures.ways ∙ ap (λ (l : List g.row.O-Move.Denot). grown (ways old.lineage) c.args.from.number l) c.deref-2.ensures.value in
     pushed_leads (g.O.Orders.runs c.args.scope.orders.now) old _ c.args.from.number next.moves.items c.deref-2.result.now added c.in_ok-push.ensures.steps
+
+pub returns-then-number-scope-clause-timed : goal.returns-then-number-scope-clause-timed
+returns-then-number-scope-clause-timed g c =
+    let orders = c.args.scope.orders.now in
+    subst (λ (l : List ℕ). AreTimed (g.O.Orders.runs orders) (g.O.Orders.time_of orders) (ways c.args.kept.now.lineage) l) (sym c.in_ok-known.ensures.times) c.requires.timed
+
+pub returns-then-joined-clause-timed : goal.returns-then-joined-clause-timed
+returns-then-joined-clause-timed g c =
+    let orders = c.args.scope.orders.now in
+    subst (λ (l : List ℕ). AreTimed (g.O.Orders.runs orders) (g.O.Orders.time_of orders) (ways c.args.kept.now.lineage) l) (sym c.in_ok-joined.ensures.times) c.requires.timed
+
+pub returns-clause-timed : goal.returns-clause-timed
+returns-clause-timed g c =
+    let orders = c.args.scope.orders.now in
+    let old = c.args.kept.now in
+    let next = c.args.next in
+    let time = c.time-time.result in
+    let added : ways c.push.new.self ≡ grown (ways old.lineage) c.args.from.number next.moves.items = c.in_ok-push.ensures.ways ∙ ap (λ (l : List g.row.O-Move.Denot). grown (ways old.lineage) c.args.from.number l) c.deref-2.ensures.value in
+    let times : c.add-2.new.self.times.items ≡ old.links.times.items ++ time ∷ [] = c.in_ok-add.ensures.times ∙ ap (λ (l : List ℕ). l ++ time ∷ []) c.in_ok-joined.ensures.times in
+    AreTimed-push (g.O.Orders.runs orders) (g.O.Orders.time_of orders) (ways old.lineage) _ old.links.times.items _ c.args.from.number next.moves.items next.node time added times c.requires.next.0 c.time-time.ensures c.requires.timed

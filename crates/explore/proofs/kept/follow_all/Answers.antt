@@ -18,6 +18,7 @@ loop-next-init g c =
     let way = get_or (ways c.args.kept.now.lineage) c.args.from.number [] in
     record {
       kept = c.requires.kept;
+      timed = c.requires.timed;
       grows = Grows-itself c.args.kept.now;
       room = c.requires.room;
       unmarked = λ k none. none;
@@ -47,6 +48,7 @@ loop-next-preserved g c =
     let same = get_or-extends (ways c.args.kept.now.lineage) (ways c.loop-next.kept.lineage) c.args.from.number [] c.loop-next.invariant.grows.lineage c.requires.from.way in
     record {
       kept = c.in_ok-there.ensures.further.kept;
+      timed = c.in_ok-there.ensures.timed;
       grows = Grows-through c.args.kept.now c.loop-next.kept c.follow.new.kept c.loop-next.invariant.grows c.in_ok-there.ensures.further.grows;
       room = c.in_ok-there.ensures.further.room;
       unmarked = λ k none. c.loop-next.invariant.unmarked k (c.in_ok-there.ensures.further.unmarked k none);
@@ -68,6 +70,9 @@ pub returns-clause-further : goal.returns-clause-further
 returns-clause-further g c =
     let known = c.loop-next.invariant in
     record { kept = known.kept; grows = known.grows; room = known.room; unmarked = known.unmarked }
+
+pub returns-clause-timed : goal.returns-clause-timed
+returns-clause-timed g c = c.loop-next.invariant.timed
 
 pub returns-clause-leads : goal.returns-clause-leads
 returns-clause-leads g c all =

@@ -1,6 +1,7 @@
 use Rattle.std.proofs.Common.{◌≡◌, ℕ, List, [], ◌++◌, length, get_or, arith, sym, subst, inl, inr}
 use Rattle.sharing.specs.Parts.{Extends}
 use Rattle.explore.specs.Lineage.{ways}
+use Rattle.explore.specs.Reach.{AreTimed}
 use Rattle.explore.specs.Pieces.{pieces}
 use Rattle.explore.specs.SearchKept.{IsContinued}
 use Rattle.explore.specs.declared.kept.KeptNodes.{KeptNodes}
@@ -81,3 +82,8 @@ returns-clause-continued g c k unmarked =
           (omega (arith, within, far)) (get_or-extends (ways old.lineage) (ways kept.lineage) number [] grows.lineage within) none (c.in_ok-successors.ensures.cover all.0 way c.requires.at.stands) (c.in_ok-followed.ensures.leads all.1) in
           subst (λ (n : ℕ). IsContinued runs new n) (sym now.0) (settled number here)
     ]
+
+pub returns-clause-timed : goal.returns-clause-timed
+returns-clause-timed g c =
+    let orders = c.args.scope.orders.now in
+    subst (λ (l : List ℕ). AreTimed (g.O.Orders.runs orders) (g.O.Orders.time_of orders) (ways c.follow_all.new.kept.lineage) l) (sym c.settle.ensures.times) c.in_ok-followed.ensures.timed

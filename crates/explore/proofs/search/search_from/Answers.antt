@@ -1,10 +1,13 @@
 use Rattle.std.proofs.Common.{◌≡◌, ℕ, ◌≤◌, [], List, length, get_or, Option, Some, arith, refl, sym, ap, ◌∙◌, subst, inl, inr}
-use Rattle.std.proofs.lemmas.List.Elements.{All-nil}
+use Rattle.std.proofs.lemmas.List.Elements.{All-nil, All-push}
 use Rattle.std.specs.List.{All, Any}
 use Rattle.explore.specs.Search.{IsOfRun, AreCounted}
 use Rattle.explore.specs.Lineage.{ways}
+use Rattle.explore.specs.Reach.{earliest_left, IsFollowedOrOpen, IsNoLater}
 use Rattle.explore.specs.Pieces.{pieces}
 use Rattle.explore.specs.declared.Shown.{Shown}
+use Rattle.explore.specs.declared.kept.KeptNodes.{KeptNodes}
+use Rattle.explore.specs.declared.kept.Reached.{Reached}
 use Rattle.explore.specs.declared.stopped.Stopped.{Stopped}
 use Rattle.explore.specs.declared.stopped.Stopped.TheVariants as stop
 use Rattle.explore.proofs.Growing.{Extends-itself, get_or-extends, length-extends}
@@ -12,6 +15,7 @@ use Rattle.explore.proofs.Complete.{all_shown}
 use Rattle.explore.proofs.Continuing.{AreContinued-more}
 use Rattle.explore.proofs.Counting.{stood_at, counted, endless_of, by_memory, some_none, none_some}
 use Rattle.explore.proofs.Keeping.{AreKept-pop, known_more, all_followed}
+use Rattle.explore.proofs.Open.{all_closed, closed_off, earliest-time, earliest-told, has_node, known_or_open_more, left-time, left-told, none_or_not, open_at}
 use Rattle.explore.proofs.search.search_from.Goals as goal
 
 pub loop-reached-init : goal.loop-reached-init
@@ -32,6 +36,10 @@ loop-reached-init g c =
       few = omega (arith, empty);
       sound = subst (λ (l : List (Shown g.row.O-Move.Denot g.row.O-End.Denot)). All (IsOfRun runs) l) (sym c.requires.none) (All-nil (IsOfRun runs));
       distinct = λ i j d low high. absurd (omega (arith, high, empty));
+      timed = c.requires.timed;
+      known = λ k less. inl (
+          let none : 0 ≡ k = omega (arith, less, few) in
+          subst (λ (n : ℕ). Any (λ p. p.number ≡ n) c.args.kept.now.pending.items) none c.requires.waits);
       followed = λ _ k less. inl (
           let none : 0 ≡ k = omega (arith, less, few) in
           subst (λ (n : ℕ). Any (λ p. p.number ≡ n) c.args.kept.now.pending.items) none c.requires.waits);
@@ -91,6 +99,26 @@ loop-reached-preserved g c =
       few = c.in_ok-left.ensures.few;
       sound = c.in_ok-left.ensures.sound;
       distinct = c.in_ok-left.ensures.distinct;
+      timed = c.in_ok-left.ensures.timed;
+      known = λ k less.
+          let time_of = g.O.Orders.time_of c.args.scope.orders.now in
+          let at = c.loop-reached.kept in
+          let mid : KeptNodes g.row.O-Node.Denot g.row.O-Move.Denot = record { lineage = at.lineage; texts = at.texts; visited = at.visited; links = at.links; pending = c.pop.new.self; nodes = c.node_at.new.nodes; key = at.key } in
+          let since = c.loop-reached.since in
+          let later = c.earliest_left-since.result in
+          let left = c.in_ok-left.left in
+          let time = c.time_at-time.result in
+          let number = c.in-Some.reached.number in
+          let within = (AreKept-pop runs (g.O.Orders.has_key c.args.scope.orders.now) at mid c.in-Some.reached before.kept refl refl refl c.in-Some.ensures.items c.in_ok-node.ensures.placed).1.way in
+          let lower : (n : ℕ) → IsNoLater since n → IsNoLater later n = λ n is. subst (λ (o : Option ℕ). IsNoLater o n) (sym c.earliest_left-since.ensures) (left-told since left time n is) in
+          let run = get_or old number [] in
+          let here : IsFollowedOrOpen runs time_of c.expand_node.new.shown.items later new run = elim (none_or_not left) [
+            | inl none ↦ inl (c.in_ok-left.ensures.followed none)
+            | inr cut ↦ inr (open_at runs time_of old at.links.times.items later number before.timed within
+                (subst (λ (o : Option ℕ). IsNoLater o (get_or at.links.times.items number 0)) (sym c.earliest_left-since.ensures)
+                (subst (λ (n : ℕ). IsNoLater (earliest_left since left time) n) c.time_at-time.ensures (left-time since left time cut))))
+          ] in
+          known_or_open_more runs time_of at mid c.expand_node.new.kept c.in-Some.reached c.loop-reached.shown.items c.expand_node.new.shown.items since later k refl c.in-Some.ensures.items c.in_ok-left.ensures.grows c.in_ok-left.ensures.shown lower here before.known less;
       followed = λ none k less.
           let both = c.earlier-stopped.ensures.none none in
           known_more runs c.loop-reached.kept (record { lineage = c.loop-reached.kept.lineage; texts = c.loop-reached.kept.texts; visited = c.loop-reached.kept.visited; links = c.loop-reached.kept.links; pending = c.pop.new.self; nodes = c.node_at.new.nodes; key = c.loop-reached.kept.key }) c.expand_node.new.kept c.in-Some.reached c.loop-reached.shown.items c.expand_node.new.shown.items k refl c.in-Some.ensures.items
@@ -153,6 +181,78 @@ returns-clause-counted g c =
     let over : length c.loop-reached.kept.pending.items ≡ 0 = omega (arith, c.in_default.ensures.cases.0) in
     counted runs (g.O.Orders.has_key c.args.scope.orders.now) c.loop-reached.kept c.loop-reached.shown.items c.loop-reached.stopped c.loop-reached.nodes before.kept before.nodes before.some before.starts
     (λ none. all_followed runs c.loop-reached.kept c.loop-reached.shown.items over (before.followed none))
+
+pub expand_node-requires-clause-timed : goal.expand_node-requires-clause-timed
+expand_node-requires-clause-timed g c = c.loop-reached.invariant.timed
+
+pub returns-in_err-left-clause-before : goal.returns-in_err-left-clause-before
+returns-in_err-left-clause-before g c = inl (by_memory c.from_residual-in_err-left.result _ c.from_residual-in_err-left.ensures.1)
+
+pub returns-in_err-endless-clause-before : goal.returns-in_err-endless-clause-before
+returns-in_err-endless-clause-before g c = inl (by_memory c.from_residual-in_err-endless.result _ c.from_residual-in_err-endless.ensures.1)
+
+pub returns-in_err-node-clause-before : goal.returns-in_err-node-clause-before
+returns-in_err-node-clause-before g c = inl (by_memory c.from_residual.result _ c.from_residual.ensures.1)
+
+pub returns-then-bytes-scope-clause-before : goal.returns-then-bytes-scope-clause-before
+returns-then-bytes-scope-clause-before g c =
+    let runs = g.O.Orders.runs c.args.scope.orders.now in
+    let at = c.loop-reached.kept in
+    let before = c.loop-reached.invariant in
+    let least = c.earliest_open.result in
+    let times = at.links.times.items in
+    let last : least ≤ get_or times c.in-Some.reached.number 0 =
+    let told = c.earliest_open.ensures.told in
+    let time = earliest-time c.loop-reached.since c.time_at-time.result in
+    let is = c.time_at-time.ensures in
+    omega (arith, told, time, is) in
+    let all : All (λ p. least ≤ get_or times p.number 0) at.pending.items =
+    subst (λ (l : List Reached). All (λ p. least ≤ get_or times p.number 0) l) (sym c.in-Some.ensures.items)
+    (All-push (λ (p : Reached). least ≤ get_or times p.number 0) c.pop.new.self.items c.in-Some.reached c.earliest_open.ensures.pending last) in
+    inr (closed_off runs (g.O.Orders.time_of c.args.scope.orders.now) at c.loop-reached.shown.items c.loop-reached.since least before.timed before.known
+    (λ n is. let told = c.earliest_open.ensures.told in let less = earliest-told c.loop-reached.since c.time_at-time.result n is in omega (arith, told, less)) all before.some before.starts)
+
+pub returns-then-is_full-clause-before : goal.returns-then-is_full-clause-before
+returns-then-is_full-clause-before g c =
+    let runs = g.O.Orders.runs c.args.scope.orders.now in
+    let time_of = g.O.Orders.time_of c.args.scope.orders.now in
+    let at = c.loop-reached.kept in
+    let before = c.loop-reached.invariant in
+    let new = c.expand_node.new.kept in
+    let old = ways at.lineage in
+    let mid : KeptNodes g.row.O-Node.Denot g.row.O-Move.Denot = record { lineage = at.lineage; texts = at.texts; visited = at.visited; links = at.links; pending = c.pop.new.self; nodes = c.node_at.new.nodes; key = at.key } in
+    let since = c.loop-reached.since in
+    let time = c.time_at-time.result in
+    let least = c.earliest_open-then-is_full.result in
+    let told = c.earliest_open-then-is_full.ensures.told in
+    let number = c.in-Some.reached.number in
+    let within = (AreKept-pop runs (g.O.Orders.has_key c.args.scope.orders.now) at mid c.in-Some.reached before.kept refl refl refl c.in-Some.ensures.items c.in_ok-node.ensures.placed).1.way in
+    let lower : (n : ℕ) → IsNoLater since n → least ≤ n = λ n is. let less = earliest-told since time n is in omega (arith, told, less) in
+    let last : least ≤ get_or at.links.times.items number 0 = let less = earliest-time since time in let is = c.time_at-time.ensures in omega (arith, told, less, is) in
+    let here : IsFollowedOrOpen runs time_of c.expand_node.new.shown.items (Some least) (ways new.lineage) (get_or old number []) = inr (open_at runs time_of old at.links.times.items (Some least) number before.timed within last) in
+    let more = c.in_ok-left.ensures.grows.lineage in
+    let longer : length old ≤ length (ways new.lineage) = length-extends old (ways new.lineage) more in
+    inr (closed_off runs time_of new c.expand_node.new.shown.items (Some least) least c.in_ok-left.ensures.timed
+    (λ k less. known_or_open_more runs time_of at mid new c.in-Some.reached c.loop-reached.shown.items c.expand_node.new.shown.items since (Some least) k refl c.in-Some.ensures.items c.in_ok-left.ensures.grows c.in_ok-left.ensures.shown lower here before.known less)
+    (λ n is. is) c.earliest_open-then-is_full.ensures.pending (omega (arith, before.some, longer)) (get_or-extends old (ways new.lineage) 0 [] more before.some ∙ before.starts))
+
+pub returns-clause-before : goal.returns-clause-before
+returns-clause-before g c =
+    let before = c.loop-reached.invariant in
+    let over : length c.loop-reached.kept.pending.items ≡ 0 = omega (arith, c.in_default.ensures.cases.0) in
+    inr (all_closed (g.O.Orders.runs c.args.scope.orders.now) (g.O.Orders.time_of c.args.scope.orders.now) c.loop-reached.kept c.loop-reached.shown.items c.loop-reached.since over before.known before.some before.starts)
+
+pub returns-then-bytes-scope-clause-widest : goal.returns-then-bytes-scope-clause-widest
+returns-then-bytes-scope-clause-widest g c =
+    has_node (g.O.Orders.runs c.args.scope.orders.now) (g.O.Orders.has_key c.args.scope.orders.now) c.loop-reached.kept c.widest_way.result c.loop-reached.invariant.kept c.widest_way.ensures
+
+pub returns-then-is_full-clause-widest : goal.returns-then-is_full-clause-widest
+returns-then-is_full-clause-widest g c =
+    has_node (g.O.Orders.runs c.args.scope.orders.now) (g.O.Orders.has_key c.args.scope.orders.now) c.expand_node.new.kept c.widest_way-then-is_full.result c.in_ok-left.ensures.kept c.widest_way-then-is_full.ensures
+
+pub returns-clause-widest : goal.returns-clause-widest
+returns-clause-widest g c =
+    has_node (g.O.Orders.runs c.args.scope.orders.now) (g.O.Orders.has_key c.args.scope.orders.now) c.loop-reached.kept c.widest_way-widest.result c.loop-reached.invariant.kept c.widest_way-widest.ensures
 
 pub find_endless-requires-clause-known : goal.find_endless-requires-clause-known
 find_endless-requires-clause-known g c k none = let here = c.loop-reached.invariant.continued k none in here.within

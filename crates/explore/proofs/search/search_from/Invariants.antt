@@ -3,7 +3,9 @@ use Rattle.std.specs.List.{All, AllPairs, Any}
 use Rattle.explore.specs.SearchKept.{AreContinued, AreKept}
 use Rattle.explore.specs.Search.{IsOfRun, AreDistinct, IsShown, IsFollowed, Serves}
 use Rattle.explore.specs.Lineage.{ways}
+use Rattle.explore.specs.Reach.{AreTimed}
 use Rattle.explore.specs.declared.stopped.Stopped.TheVariants as stop
+use Rattle.explore.proofs.Open.{IsKnownOrOpen}
 use Rattle.explore.proofs.search.search_from.Given as goal
 
 abbrev pub invariant-loop-reached : goal.invariant-loop-reached
@@ -22,6 +24,8 @@ invariant-loop-reached g l =
       few : length l.shown.items ≤ l.scope.bounds.shown;
       sound : All (IsOfRun runs) l.shown.items;
       distinct : AllPairs AreDistinct l.shown.items;
+      timed : AreTimed runs (g.O.Orders.time_of l.scope.orders.now) reached l.kept.links.times.items;
+      known : (k : ℕ) → k < length reached → IsKnownOrOpen runs (g.O.Orders.time_of l.scope.orders.now) l.kept l.shown.items l.since k;
       followed : l.stopped ≡ None → (k : ℕ) → k < length reached → Any (λ p. p.number ≡ k) l.kept.pending.items ⊎ IsFollowed runs (IsShown l.shown.items) (Serves runs) reached (get_or reached k []);
     }
 

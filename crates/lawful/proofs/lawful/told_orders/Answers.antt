@@ -9,7 +9,7 @@ returns-in-Err g c =
     let limits = c.args.limits in
     let telling = c.args.telling.now in
     let is = c.nothing_found.ensures in
-    nothing_is_found (g.T.RunTelling.is_journal telling design limits) (g.T.RunTelling.are_all telling design limits) (design_of design) limits c.args.bounds c.nothing_found.result is.shown is.stopped is.nodes is.endless
+    nothing_is_found (g.T.RunTelling.is_journal telling design limits) (g.T.RunTelling.are_all telling design limits) (design_of design) limits c.args.bounds c.nothing_found.result is.shown is.stopped is.nodes is.endless is.widest
 
 pub returns-in-None : goal.returns-in-None
 returns-in-None g c =
@@ -17,4 +17,4 @@ returns-in-None g c =
     let limits = c.args.limits in
     let telling = c.args.telling.now in
     let is = c.nothing_found-in-None.ensures in
-    nothing_is_found (g.T.RunTelling.is_journal telling design limits) (g.T.RunTelling.are_all telling design limits) (design_of design) limits c.args.bounds c.nothing_found-in-None.result is.shown is.stopped is.nodes is.endless
+    nothing_is_found (g.T.RunTelling.is_journal telling design limits) (g.T.RunTelling.are_all telling design limits) (design_of design) limits c.args.bounds c.nothing_found-in-None.result is.shown is.stopped is.nodes is.endless is.widest

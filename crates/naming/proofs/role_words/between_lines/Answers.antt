@@ -1,12 +1,7 @@
 -- One piece after another.
-use Rattle.std.proofs.Common.{◌≡◌, ◌∙◌, ap, ℕ, List, ◌++◌, codes, decimal, string_bytes}
+use Rattle.std.proofs.Common.{ℕ, List, codes, decimal, string_bytes}
+use Rattle.naming.proofs.LineWords.{joined_four}
 use Rattle.naming.proofs.role_words.between_lines.Goals as goal
-
-joined_four : (word zeroth first second third fourth a b b' m d d' : List ℕ) → zeroth ≡ word → first ≡ zeroth ++ a → second ≡ first ++ b → b ≡ b' → third ≡ second ++ m → fourth ≡ third ++ d → d ≡ d'
-    → fourth ≡ word ++ a ++ b' ++ m ++ d'
-joined_four word zeroth first second third fourth a b b' m d d' e0 e1 e2 b_is e3 e4 d_is =
-    (e4 ∙ ap (λ l. l ++ d) (e3 ∙ ap (λ l. l ++ m) (e2 ∙ ap (λ l. l ++ b) (e1 ∙ ap (λ l. l ++ a) e0))))
-    ∙ (ap (λ l. word ++ a ++ l ++ m ++ d) b_is ∙ ap (λ l. word ++ a ++ b' ++ m ++ l) d_is)
 
 pub returns : goal.returns
 returns c =

@@ -1,8 +1,7 @@
 -- What was said of waves, and what is left where memory was refused.
-use Rattle.std.proofs.Common.{◌⊎◌, ℕ, List, inl, option_map, subst}
-use Rattle.std.specs.Io.KnownBytes.{Appends, Keeps}
-use Rattle.files.specs.Saved.{KeepsFiles, SavesSomeWhereAsked}
+use Rattle.std.proofs.Common.{inl, option_map}
 use Rattle.program.specs.Findings.{journals_of}
+use Rattle.program.proofs.Early.{none_early}
 use Rattle.program.proofs.Ended.{if_err, output_same}
 use Rattle.program.proofs.Waved.{found_waves, left_waves}
 use Rattle.program.proofs.observed.tell_waves.Goals as goal
@@ -14,9 +13,12 @@ returns-in-Ok-clause-ended g c =
     let waves = c.in_ok-waves.waves in
     let begun = g.O.Write.contents c.args.out.now in
     let end = g.O.Write.contents c.tell_texts.new.out in
+    let tried = g.F.Files.made c.try_first.new.files in
+    let endless = option_map (λ journal. journal.items) waves.endless in
+    let early = none_early tried prefix c.none.result.count (journals_of waves.shown.items endless) c.none.result.fault c.none.ensures.count c.none.ensures.fault in
     found_waves c.args.design.now request.observed request.search_options prefix c.args.registers.now waves.claim waves.shown.items (option_map (λ journal. journal.items) waves.endless) c.in_ok-said.said.items begun end
     (g.F.Files.made c.args.files.now) (g.F.Files.made c.try_first.new.files) (g.F.Files.made c.tell_texts.new.files) c.finding_of-found.result c.requires c.in_ok-waves.ensures c.in_ok-said.ensures
-    (subst (λ (l : List ℕ). Appends begun end l) c.as_slice.ensures.value c.in-Ok.ensures.told) c.in_ok-try_first.ensures.kept c.in-Ok.ensures.saved c.finding_of-found.ensures
+    c.in-Ok.ensures.told c.in_ok-try_first.ensures.kept (c.in-Ok.ensures.saved tried early) c.finding_of-found.ensures
 
 pub returns-clause-wanting : goal.returns-clause-wanting
 returns-clause-wanting g c = λ six.
@@ -28,9 +30,10 @@ returns-clause-wanting g c = λ six.
     let end = g.O.Write.contents c.tell_texts.new.out in
     let tried = g.F.Files.made c.try_first.new.files in
     let saved = g.F.Files.made c.tell_texts.new.files in
+    let early = none_early tried prefix c.none.result.count (journals_of waves.shown.items endless) c.none.result.fault c.none.ensures.count c.none.ensures.fault in
     left_waves c.args.design.now request.observed request.search_options prefix c.args.registers.now waves.claim waves.shown.items endless c.in_ok-said.said.items begun end (g.F.Files.made c.args.files.now) tried saved c.requires c.in_ok-waves.ensures c.in_ok-said.ensures
     c.in_ok-try_first.ensures.kept
-    (subst (λ (l : List ℕ). (Keeps begun end × KeepsFiles tried saved) ⊎ (Appends begun end l × SavesSomeWhereAsked tried saved prefix (journals_of waves.shown.items endless))) c.as_slice.ensures.value (c.in-Err.ensures.wanting six))
+    (c.in-Err.ensures.wanting tried early six)
 
 pub returns-in_err-try_first-clause-wanting : goal.returns-in_err-try_first-clause-wanting
 returns-in_err-try_first-clause-wanting g c = if_err _ c.from_residual.result (λ f six. inl (output_same (g.O.Write.contents c.args.out.now), c.in_err-try_first.ensures.kept))

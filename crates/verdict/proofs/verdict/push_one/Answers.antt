@@ -1,5 +1,6 @@
-use Rattle.std.proofs.Common.{◌≡◌, ◌++◌, ◌∙◌, ap, ℕ, List, codes, option_map, refl, subst}
+use Rattle.std.proofs.Common.{◌≡◌, ◌++◌, ◌∙◌, ap, ℕ, Bool, List, codes, option_map, refl, subst}
 use Rattle.verdict.specs.StopLines.{has_stops, stops_text}
+use Rattle.verdict.specs.EndingLines.{endings_text}
 use Rattle.verdict.specs.Verdicts.{every_or_none, run_prints, up_to, these_lines, lines_in, states_text, endless_text}
 use Rattle.verdict.proofs.Pieces.{joined, joined_last}
 use Rattle.verdict.proofs.verdict.push_one.Goals as goal
@@ -15,6 +16,7 @@ returns c =
     let prefix = option_map (λ path. path.now) verdict.prefix in
     let stops = stops_text (codes "text ") prefix verdict.stops.now in
     let endless = endless_text c.args.endless prefix in
+    let endings = endings_text verdict.endings (has_stops verdict.stops.now) verdict.until in
     let begun = every_or_none (has_stops verdict.stops.now) in
     let prints = run_prints (has_stops verdict.stops.now) in
     let one = subst (λ (l : List ℕ). c.extend_from_slice.new.self.items ≡ old ++ l) (c.every_or_none.ensures ∙ ap every_or_none c.has_stops-some.ensures) c.in_ok-extend_from_slice.ensures.items in
@@ -23,7 +25,9 @@ returns c =
     let three = joined c.extend_from_slice-2.new.self.items old (begun ++ until) c.push_up_to.new.text.items prints said two in
     let four = joined c.push_these_lines.new.text.items old (begun ++ until ++ prints) c.extend_from_slice-2.new.self.items lines c.in_ok-push_these_lines.ensures three in
     let five = joined c.push_states.new.text.items old (begun ++ until ++ prints ++ lines) c.push_these_lines.new.text.items states c.in_ok-push_states.ensures four in
-    let six = joined c.push_stops.new.text.items old (begun ++ until ++ prints ++ lines ++ states) c.push_states.new.text.items stops c.in_ok-push_stops.ensures five in
-    let seven = joined c.push_endless.new.text.items old (begun ++ until ++ prints ++ lines ++ states ++ stops) c.push_stops.new.text.items endless c.in_ok-push_endless.ensures six in
-    joined_last c.extend_from_slice-3.result c.extend_from_slice-3.new.self.items old (begun ++ until ++ prints ++ lines ++ states ++ stops ++ endless) c.push_endless.new.text.items
-    only only c.extend_from_slice-3.ensures.items seven refl
+    let ended = subst (λ (b : Bool). c.push_endings.new.text.items ≡ c.push_states.new.text.items ++ endings_text verdict.endings b verdict.until) c.has_stops-some.ensures c.in_ok-push_endings.ensures in
+    let six = joined c.push_endings.new.text.items old (begun ++ until ++ prints ++ lines ++ states) c.push_states.new.text.items endings ended five in
+    let seven = joined c.push_stops.new.text.items old (begun ++ until ++ prints ++ lines ++ states ++ endings) c.push_endings.new.text.items stops c.in_ok-push_stops.ensures six in
+    let eight = joined c.push_endless.new.text.items old (begun ++ until ++ prints ++ lines ++ states ++ endings ++ stops) c.push_stops.new.text.items endless c.in_ok-push_endless.ensures seven in
+    joined_last c.extend_from_slice-3.result c.extend_from_slice-3.new.self.items old (begun ++ until ++ prints ++ lines ++ states ++ endings ++ stops ++ endless) c.push_endless.new.text.items
+    only only c.extend_from_slice-3.ensures.items eight refl

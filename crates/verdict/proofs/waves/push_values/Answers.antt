@@ -6,7 +6,7 @@ use Rattle.verdict.proofs.waves.push_values.Goals as goal
 pub returns : goal.returns
 returns c =
     let old = c.args.text.now.items in
-    let registers = these_registers c.args.registers in
+    let registers = these_registers c.args.all c.args.registers in
     let lines = same_lines_text c.args.lines in
     let both : List ℕ = codes " (and " in
     let ended : List ℕ = codes ")\n" in

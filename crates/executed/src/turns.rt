@@ -1,0 +1,241 @@
+//! The turns of a journal in which statements are looked for.
+
+use crate::deed::Deed;
+use crate::marks::{SoughtTurn, StatementMarks};
+use crate::statements::StatementSearch;
+use design::{ProcState, RegId};
+use model::entry::Entry;
+use regions::{Due, Machine, State, Update};
+use std::alloc::{AllocError, Global};
+use std::collections::VecDeque;
+use turn::TurnLog;
+
+/// What is looked for in the turns of a process: what its statements do, and, for an update, the number of its event.
+#[derive(Clone, Copy)]
+pub(crate) struct TurnSearch {
+    pub(crate) deed: Deed,
+    pub(crate) update: Option<u64>,
+}
+
+// The process that a turn is of, if it is one, and where it went on.
+fn turn_of(machine: &Machine<'_>, entry: Entry) -> Option<(u64, u32, ProcState)> {
+    match entry {
+        Entry::Turn(number) => match machine.state().evaluation(number) {
+            Some((process, state)) => Some((number, process, state)),
+            None => None,
+        },
+        _ => None,
+    }
+}
+
+// Whether an update with a number is among those of the nonblocking region.
+fn has_nonblocking(updates: &VecDeque<Update>, number: u64) -> bool {
+    for at in 0..updates.len() {
+        if updates[at].number == number {
+            return true;
+        }
+    }
+    false
+}
+
+// Whether an update with a number is among those of later times.
+fn has_future(updates: &VecDeque<Due<Update>>, number: u64) -> bool {
+    for at in 0..updates.len() {
+        if updates[at].event.number == number {
+            return true;
+        }
+    }
+    false
+}
+
+// Whether an update with a number is to come.
+fn has_update(state: &State, number: u64) -> bool {
+    has_nonblocking(state.nonblocking(), number) || has_future(state.future_updates(), number)
+}
+
+// The greatest number of an update of the nonblocking region.
+fn last_nonblocking(updates: &VecDeque<Update>) -> u64 {
+    let mut last: u64 = 0;
+    for at in 0..updates.len() {
+        last = last.max(updates[at].number);
+    }
+    last
+}
+
+// The greatest number of an update of a later time.
+fn last_future(updates: &VecDeque<Due<Update>>) -> u64 {
+    let mut last: u64 = 0;
+    for at in 0..updates.len() {
+        last = last.max(updates[at].event.number);
+    }
+    last
+}
+
+// The greatest number of an update that is to come.
+fn last_update(state: &State) -> u64 {
+    last_nonblocking(state.nonblocking()).max(last_future(state.future_updates()))
+}
+
+// The number of the update of a register that an entry takes, if it takes one.
+fn update_of(machine: &Machine<'_>, entry: Entry, register: RegId) -> Option<u64> {
+    match (entry, machine.state().first_updated()) {
+        (Entry::Update(number), Some((updated, _))) => {
+            if updated == register && machine.state().first_update() == Some(number) {
+                Some(number)
+            } else {
+                None
+            }
+        }
+        _ => None,
+    }
+}
+
+// The most updates of a register at one time that are looked at.
+const MOST_UPDATES: usize = 8;
+
+/// The events of the first updates of a register at a race's time in its journal. Fails where memory is refused.
+pub(crate) fn updates_at(
+    search: StatementSearch<'_>,
+    register: RegId,
+) -> Result<Vec<u64>, AllocError> {
+    let mut machine = Machine::start(search.alloc, search.design)?;
+    let mut updates = Vec::new(search.alloc);
+    for entry in search.journal {
+        if machine.time() > search.time || updates.len() >= MOST_UPDATES {
+            return Ok(updates);
+        }
+        if machine.time() == search.time {
+            match update_of(&machine, *entry, register) {
+                Some(update) => updates.push(update)?,
+                None => {}
+            }
+        }
+        if machine.take(*entry).is_err() {
+            return Ok(updates);
+        }
+    }
+    Ok(updates)
+}
+
+/// A machine that is led along a journal to the turns of a process that may have done what is looked for, and the marks of the nodes that did.
+#[derive(Drop)]
+pub(crate) struct TurnFinder<'a> {
+    search: StatementSearch<'a>,
+    sought: TurnSearch,
+    machine: Machine<'a>,
+    log: TurnLog,
+    pub(crate) marks: StatementMarks,
+    /// The place of the first node of each process.
+    pub(crate) starts: Vec<usize>,
+}
+
+// Where the processes stand, by their numbers.
+fn places_of(alloc: Global, state: &State) -> Result<Vec<usize>, AllocError> {
+    let processes = state.processes();
+    let mut places = Vec::new(alloc);
+    for at in 0..processes.len() {
+        places.push(processes[at].state.place)?;
+    }
+    Ok(places)
+}
+
+impl<'a> TurnFinder<'a> {
+    /// At the start of a journal, with no marks. Fails where memory is refused.
+    pub(crate) fn start(
+        search: StatementSearch<'a>,
+        sought: TurnSearch,
+    ) -> Result<TurnFinder<'a>, AllocError> {
+        let marks = StatementMarks::new(search.alloc, search.design)?;
+        let machine = Machine::start(search.alloc, search.design)?;
+        let starts = places_of(search.alloc, machine.state())?;
+        Ok(TurnFinder {
+            search,
+            sought,
+            machine,
+            log: TurnLog::new(search.alloc),
+            marks,
+            starts,
+        })
+    }
+
+    // Where the process goes on, if an entry is a turn of it that may have done what is looked for: one at the race's time, or, for an
+    // update, any that may have made its event.
+    fn candidate(&self, entry: Entry) -> Option<(u64, ProcState)> {
+        let (number, process, state) = turn_of(&self.machine, entry)?;
+        let in_time = self.sought.update.is_some() || self.machine.time() == self.search.time;
+        if process == self.search.role.process && in_time {
+            Some((number, state))
+        } else {
+            None
+        }
+    }
+
+    // Whether the machine has the event of the update that is looked for.
+    fn has_sought(&self) -> bool {
+        match self.sought.update {
+            Some(number) => has_update(self.machine.state(), number),
+            None => false,
+        }
+    }
+
+    // Which nonblocking assignment of the turn that was taken last, of so many, made the event of the update that is looked for.
+    fn nba_number(&self, count: usize) -> Option<usize> {
+        let update = self.sought.update?;
+        let behind = last_update(self.machine.state()).saturating_sub(update);
+        Some(count.saturating_sub(1).saturating_sub(behind as usize))
+    }
+
+    // Takes a turn of the process, and marks the nodes by which it did what is looked for, if it did. The answer is whether that is known.
+    // Fails where memory is refused.
+    fn take_candidate(&mut self, number: u64, state: ProcState) -> Result<bool, AllocError> {
+        if self.machine.evaluate(&mut self.log, number, 0).is_err() {
+            return Ok(false);
+        }
+        let mut values = Vec::new(self.search.alloc);
+        values.extend_from_slice(self.machine.store().values())?;
+        let time = self.machine.time();
+        let had = self.has_sought();
+        if self.machine.take(Entry::Turn(number)).is_err() {
+            return Ok(false);
+        }
+        if self.sought.update.is_some() && (had || !self.has_sought()) {
+            return Ok(true);
+        }
+        let turn = SoughtTurn {
+            state,
+            log: &self.log,
+            time,
+            values: values.as_slice(),
+            nba: self.nba_number(self.log.nbas().len()),
+        };
+        self.marks.mark_turn(
+            self.search.alloc,
+            self.search.design,
+            turn,
+            self.sought.deed,
+        )
+    }
+
+    // Takes an entry. The answer is whether it was taken, and what it did of what is looked for is known. Fails where memory is refused.
+    fn take(&mut self, entry: Entry) -> Result<bool, AllocError> {
+        match self.candidate(entry) {
+            Some((number, state)) => self.take_candidate(number, state),
+            None => Ok(self.machine.take(entry).is_ok()),
+        }
+    }
+
+    /// Goes along the journal up to the race's time. The answer is whether what its turns did of what is looked for is known. Fails where
+    /// memory is refused.
+    pub(crate) fn go(&mut self) -> Result<bool, AllocError> {
+        let journal = self.search.journal;
+        for entry in journal {
+            if self.machine.time() > self.search.time {
+                return Ok(true);
+            }
+            if !self.take(*entry)? {
+                return Ok(false);
+            }
+        }
+        Ok(true)
+    }
+}
