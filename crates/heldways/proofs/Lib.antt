@@ -8,3 +8,4 @@ pub mod AsleepWays
 pub mod AsleepRuns
 pub mod AsleepEnds
 pub mod HeldCovering
+pub mod NoSleepers

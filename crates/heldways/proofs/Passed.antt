@@ -8,7 +8,7 @@ use Rattle.model.specs.Design.{Design, Trigger}
 use Rattle.model.specs.Expressions.{Store, value_of}
 use Rattle.model.specs.Turns.{contains, short_turn}
 use Rattle.model.specs.Turns as turns
-use Rattle.model.specs.States.{Continuation, State, wakes}
+use Rattle.model.specs.States.{Continuation, State}
 use Rattle.model.specs.Laws.{evaluations_in}
 use Rattle.orders.specs.Apart.{AgreeOn, all_given, written_by}
 use Rattle.orders.proofs.AlikeSteps.{continuation_of}
@@ -17,7 +17,7 @@ use Rattle.orders.proofs.TurnFrame.{value_other}
 use Rattle.phases.specs.Phase.{Block, IsBlock, ComputesOutputs}
 use Rattle.footprints.specs.Footprints.{RegisterChange, changes_made, matches_any}
 use Rattle.footprints.proofs.ValueChanges.{made_if, same_changes}
-use Rattle.heldways.specs.Passing.{Passing, IsPassing, HavePassed, AllPass, IsInCone, OutputsPass, SleepThrough}
+use Rattle.heldways.specs.Passing.{Passing, IsPassing, HavePassed, AllPass, IsInCone, OutputsPass, AreDeaf, SleepThrough}
 use Rattle.heldways.proofs.Asleep.{WakeNone}
 
 abbrev IsAllowed : Passing → RegisterChange → Type 0
@@ -62,7 +62,7 @@ all_passed passes a (w ∷ ws) r is all =
 
 -- changes that pass wake nobody who waits for none of these
 
-deaf_to_all : (ts : List Trigger) (passes : Passing) (cs : List RegisterChange) → ((r : ℕ) (old new : Vector) → passes r old new ≡ true → wakes ts r old new ≡ false) → AllPass passes cs → matches_any ts cs ≡ false
+deaf_to_all : (ts : List Trigger) (passes : Passing) (cs : List RegisterChange) → AreDeaf passes ts → AllPass passes cs → matches_any ts cs ≡ false
 deaf_to_all ts passes [] deaf all = refl
 deaf_to_all ts passes (c ∷ cs) deaf all =
     ap (λ b. b || matches_any ts cs) (deaf c.register c.before c.after (All-head (IsAllowed passes) c cs all)) ∙ deaf_to_all ts passes cs deaf (All-tail (IsAllowed passes) c cs all)
@@ -74,7 +74,7 @@ SleepSince s sleepers t = (q : ℕ) → contains sleepers q ≡ true → (contin
 pub wake_none : (s t : State) (members sleepers : List ℕ) (passes : Passing) (cs : List RegisterChange) → SleepThrough s members sleepers passes → SleepSince s sleepers t → AllPass passes cs → WakeNone sleepers cs t.processes
 wake_none s t members sleepers passes cs sleep since all q is =
     ap (λ (x : Continuation). matches_any x.triggers cs) (since q is).0
-    ∙ deaf_to_all (continuation_of s.processes q).triggers passes cs (λ r old new passed. sleep.deaf q r old new is passed) all
+    ∙ deaf_to_all (continuation_of s.processes q).triggers passes cs (sleep.deaf q is) all
 
 -- what a member's turn changes
 
@@ -94,7 +94,7 @@ HavePassedSince design members block cone passes s t =
       calm : (p : ℕ) → contains members p ≡ true → IsInCone cone (block p) → IsCalm design block passes t p;
     }
 
-pub passed_first : (design : Design) (members : List ℕ) (block : ℕ → Block) (cone : List ℕ) (passes : Passing) (s : State) → IsPassing passes → OutputsPass design s members block cone passes
+pub passed_first : (design : Design) (members : List ℕ) (block : ℕ → Block) (cone : List ℕ) (passes : Passing) (s : State) → IsPassing passes → OutputsPass design s.store s.time members block cone passes
     → HavePassedSince design members block cone passes s s
 passed_first design members block cone passes s is outputs =
     record {
@@ -153,7 +153,7 @@ passed_other design members block cone passes s t f ws is blocks time store all 
     }
 
 -- a member that had its turn is calm behind it
-calm_own : (design : Design) (members : List ℕ) (block : ℕ → Block) (cone : List ℕ) (passes : Passing) (s t f : State) (p : ℕ) (turn : turns.Turn) → OutputsPass design s members block cone passes → contains members p ≡ true
+calm_own : (design : Design) (members : List ℕ) (block : ℕ → Block) (cone : List ℕ) (passes : Passing) (s t f : State) (p : ℕ) (turn : turns.Turn) → OutputsPass design s.store s.time members block cone passes → contains members p ≡ true
     → IsInCone cone (block p) → IsBlock design p (block p) → f.time ≡ t.time → f.store ≡ all_given t.store turn.writes → short_turn design p (block p).rest t.store t.time ≡ Some turn
     → HavePassedSince design members block cone passes s t → IsCalm design block passes f p
 calm_own design members block cone passes s t f p turn outputs member inside own time store found h values next len passed is =
@@ -171,7 +171,7 @@ calm_own design members block cone passes s t f p turn outputs member inside own
     subst (λ a. AllPass passes (changes_made a next.writes)) (sym store)
     (outputs.again p t.store values turn next member inside h.registers len' (λ r input. h.values r) passed' found' is')
 
-calm_if : (design : Design) (members : List ℕ) (block : ℕ → Block) (cone : List ℕ) (passes : Passing) (s t f : State) (p q : ℕ) (turn : turns.Turn) (same : Bool) → (p == q) ≡ same → IsPassing passes → OutputsPass design s members block cone passes
+calm_if : (design : Design) (members : List ℕ) (block : ℕ → Block) (cone : List ℕ) (passes : Passing) (s t f : State) (p q : ℕ) (turn : turns.Turn) (same : Bool) → (p == q) ≡ same → IsPassing passes → OutputsPass design s.store s.time members block cone passes
     → contains members p ≡ true → contains members q ≡ true → IsInCone cone (block q) → ((k : ℕ) → contains members k ≡ true → IsBlock design k (block k))
     → ((r : ℕ) → p ≢ q → contains (block p).outputs r ≡ true → contains (block q).outputs r ≡ false) → f.time ≡ t.time → f.store ≡ all_given t.store turn.writes
     → short_turn design p (block p).rest t.store t.time ≡ Some turn → AllPass passes (changes_made t.store turn.writes) → HavePassedSince design members block cone passes s t → IsCalm design block passes f q
@@ -185,7 +185,7 @@ calm_if design members block cone passes s t f p q turn false same is outputs me
     calm_still design block passes t f turn.writes q is (blocks q other) time store all (λ r wrote. single r differ (c.writes r wrote)) (h.calm q other inside)
 
 -- and so is each member where one had its turn
-pub passed_own : (design : Design) (members : List ℕ) (block : ℕ → Block) (cone : List ℕ) (passes : Passing) (s t f : State) (p : ℕ) (turn : turns.Turn) → IsPassing passes → OutputsPass design s members block cone passes
+pub passed_own : (design : Design) (members : List ℕ) (block : ℕ → Block) (cone : List ℕ) (passes : Passing) (s t f : State) (p : ℕ) (turn : turns.Turn) → IsPassing passes → OutputsPass design s.store s.time members block cone passes
     → contains members p ≡ true → ((k : ℕ) → contains members k ≡ true → IsBlock design k (block k))
     → ((k q r : ℕ) → contains members k ≡ true → contains members q ≡ true → k ≢ q → contains (block k).outputs r ≡ true → contains (block q).outputs r ≡ false) → f.time ≡ t.time → f.store ≡ all_given t.store turn.writes
     → short_turn design p (block p).rest t.store t.time ≡ Some turn → AllPass passes (changes_made t.store turn.writes) → HavePassedSince design members block cone passes s t → HavePassedSince design members block cone passes s f

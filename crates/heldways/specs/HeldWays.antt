@@ -64,7 +64,7 @@ pub record HasHeldWay (class : ℕ → ℕ) (design : Design) (members : List �
   pub passes : Passing
   pub is_passing : IsPassing passes
   pub steps_pass : HoldsOf (λ f. AllPass passes f.changes) steps
-  pub outputs_pass : OutputsPass design s members block cone passes
+  pub outputs_pass : OutputsPass design s.store s.time members block cone passes
   pub sleep : SleepThrough s members sleepers passes
 
 -- a state is like what a loose run comes to from the start

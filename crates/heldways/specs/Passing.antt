@@ -2,7 +2,7 @@
 use Rattle.std.specs.Prelude.{◌≡◌, ℕ, Bool, true, false, List, length, Some}
 use Rattle.std.specs.List.{All}
 use Rattle.logic4.specs.Vector.{Vector}
-use Rattle.model.specs.Design.{Design}
+use Rattle.model.specs.Design.{Design, Trigger}
 use Rattle.model.specs.Expressions.{Store, value_of}
 use Rattle.model.specs.Turns.{contains, short_turn}
 use Rattle.model.specs.Turns as turns
@@ -36,27 +36,30 @@ abbrev pub IsInCone : List ℕ → Block → Type 0
 IsInCone cone block = (r : ℕ) → contains block.outputs r ≡ true → contains cone r ≡ true
 
 -- The outputs in a cone pass through what they may be given: on whatever values the inputs of such a member may have passed to since a
--- state, the changes that its turn makes pass. It makes them of the values that the outputs have in that state, or that its turn gave them
+-- start, the changes that its turn makes pass. It makes them of the values that the outputs have at the start, or that its turn gave them
 -- on values from which its inputs may have passed to these.
-pub record OutputsPass (design : Design) (s : State) (members : List ℕ) (block : ℕ → Block) (cone : List ℕ) (passes : Passing) : Type 0 where
+pub record OutputsPass (design : Design) (start : Store) (now : ℕ) (members : List ℕ) (block : ℕ → Block) (cone : List ℕ) (passes : Passing) : Type 0 where
   pub first :
-      (p : ℕ) (store : Store) (turn : turns.Turn) → contains members p ≡ true → IsInCone cone (block p) → length store ≡ length s.store
-      → HavePassed passes (block p).inputs s.store store → short_turn design p (block p).rest store s.time ≡ Some turn
-      → AllPass passes (changes_made s.store turn.writes)
+      (p : ℕ) (store : Store) (turn : turns.Turn) → contains members p ≡ true → IsInCone cone (block p) → length store ≡ length start
+      → HavePassed passes (block p).inputs start store → short_turn design p (block p).rest store now ≡ Some turn
+      → AllPass passes (changes_made start turn.writes)
   pub again :
       (p : ℕ) (store other : Store) (turn next : turns.Turn) → contains members p ≡ true → IsInCone cone (block p)
-      → length store ≡ length s.store → length other ≡ length s.store → HavePassed passes (block p).inputs s.store store
-      → HavePassed passes (block p).inputs store other → short_turn design p (block p).rest store s.time ≡ Some turn
-      → short_turn design p (block p).rest other s.time ≡ Some next
+      → length store ≡ length start → length other ≡ length start → HavePassed passes (block p).inputs start store
+      → HavePassed passes (block p).inputs store other → short_turn design p (block p).rest store now ≡ Some turn
+      → short_turn design p (block p).rest other now ≡ Some next
       → AllPass passes (changes_made (all_given store turn.writes) next.writes)
+
+-- none of these triggers stands for a change that passes
+abbrev pub AreDeaf : Passing → List Trigger → Type 0
+AreDeaf passes triggers =
+    (r : ℕ) (old new : Vector) → passes r old new ≡ true → wakes triggers r old new ≡ false
 
 -- Processes sleep through all that passes: none of them is a member, or has an active evaluation, or waits for a change that passes.
 pub record SleepThrough (s : State) (members sleepers : List ℕ) (passes : Passing) : Type 0 where
   pub outside : (q : ℕ) → contains sleepers q ≡ true → contains members q ≡ false
   pub idle : (q : ℕ) → contains sleepers q ≡ true → evaluations_in q s.active ≡ 0
-  pub deaf :
-      (q r : ℕ) (old new : Vector) → contains sleepers q ≡ true → passes r old new ≡ true
-      → wakes (continuation_of s q).triggers r old new ≡ false
+  pub deaf : (q : ℕ) → contains sleepers q ≡ true → AreDeaf passes (continuation_of s q).triggers
 
 -- a state in which the sleepers wait for nothing
 abbrev pub put_to_sleep : List ℕ → State → State

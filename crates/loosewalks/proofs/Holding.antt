@@ -37,8 +37,9 @@ use Rattle.certificates.specs.CertificateLaws.{IsReachedLoosely}
 use Rattle.heldmoves.specs.WithoutHeld.{without_held}
 use Rattle.heldmoves.specs.HeldMoves.{IsHeldMove, held_moves}
 use Rattle.heldmoves.proofs.LeftAside.{was_there}
-use Rattle.heldways.specs.HeldWays.{StepKeepsOff, HasConeOfAll, HasCertifiedWay, IsLikeLooselyReached, TransitionsTakeEvents}
+use Rattle.heldways.specs.HeldWays.{StepKeepsOff, HasConeOfAll, HasHeldWay, IsLikeLooselyReached, TransitionsTakeEvents}
 use Rattle.heldways.proofs.HeldCovering.{held_way_covers}
+use Rattle.heldways.proofs.NoSleepers.{without_sleepers}
 use Rattle.noted.specs.NotedSteps.{IsEntryNoted, note_of}
 use Rattle.loosewalks.specs.declared.active.NamedEntry.{NamedEntry}
 use Rattle.loosewalks.specs.EventWays.{AreOfActors}
@@ -212,22 +213,12 @@ module _ (old new : MachineView) (network : Network) (held : List ℕ) where
       (step_keeps all pending off note x.1 first (All-head Keeps note notes keep), all_keep all pending off notes w exact (All-tail Keeps note notes keep))
 
   module _ (class : ℕ → ℕ) (limits : Limits) (moves : List LooseTransition) (done : HasHeld class limits old network held moves new) where
-    certified_way : (order : IsInOrder s) → HasCertifiedWay class (design_of old.code) held blocks (rank_in network.ranks.items) s
+    certified_way : (order : IsInOrder s) → HasHeldWay class (design_of old.code) held blocks (rank_in network.ranks.items) s
     certified_way order =
         let steps : AreOthersSteps class held old order done.notes done.mid = done.others.others.noted order in
-        record {
-          order = order;
-          held = is_held done.may;
-          steps = steps.steps;
-          last = (state_at done.mid, steps.new_order);
-          runs = steps.runs;
-          certified = done.others.certify class (design_of old.code) steps.steps steps.tells;
-          over = done.others.over;
-          touched = done.off.touched;
-          cone = done.off.cone;
-          has_cone = has_cone done.notes done.pending done.active done.off;
-          keep = all_keep done.notes done.pending done.off done.notes steps.steps steps.exact done.off.each;
-        }
+        without_sleepers class (design_of old.code) held blocks (rank_in network.ranks.items) s order steps.steps (state_at done.mid, steps.new_order) done.off.touched done.off.cone (is_held done.may) steps.runs
+        (done.others.certify class (design_of old.code) steps.steps steps.tells) done.others.over (has_cone done.notes done.pending done.active done.off)
+        (all_keep done.notes done.pending done.off done.notes steps.steps steps.exact done.off.each)
 
     take_events : (way : List LooseTransition) → AreOfActors way → TransitionsTakeEvents way
     take_events [] actors = tt
