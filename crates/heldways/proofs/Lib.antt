@@ -8,4 +8,3 @@ pub mod AsleepWays
 pub mod AsleepRuns
 pub mod AsleepEnds
 pub mod HeldCovering
-pub mod NoSleepers

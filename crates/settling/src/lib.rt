@@ -21,5 +21,5 @@ pub use begin::{Begin, evaluated_processes};
 pub use between::{members_settled_since, settle_since};
 pub use held::{Awaited, held_of, settled_of};
 pub use member::place_behind;
-pub use phase::{inputs_at, outputs_at, outputs_of, phase_of};
+pub use phase::{inputs_at, is_any_outside, outputs_at, outputs_of, phase_of};
 pub use sleepers::{Sleeper, sleepers_of, with_sleepers};
