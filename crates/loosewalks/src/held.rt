@@ -164,15 +164,9 @@ fn take_from(
         return Ok(false);
     }
     let notes = room.certificate.notes();
-    let cone = cone_beside(scope.alloc, scope.network, held, &start.pending, notes)?;
-    if !keep_off(
-        scope.alloc,
-        scope.network,
-        held,
-        &start.pending,
-        &cone,
-        notes,
-    )? {
+    let pending = start.pending.as_slice();
+    let cone = cone_beside(scope.alloc, scope.network, held, pending, notes)?;
+    if !keep_off(scope.alloc, scope.network, held, pending, &cone, notes)? {
         room.rest = unmet_by(scope.alloc, scope.network, held, &cone, notes)?;
         return Ok(false);
     }

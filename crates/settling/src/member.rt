@@ -101,9 +101,9 @@ fn member_at(machine: &Machine<'_>, network: &Network, process: u32) -> Option<C
 pub fn place_behind(machine: &Machine<'_>, network: &Network, process: u32) -> Option<ProcState>
     ensures { IfSome result (λ place. IsPlaceBehind machine.now.code network.now process place) }
 {
-    let logic = logic_at(network, process)?;
+    let own = logic_at(network, process)?;
     let continuation = *machine.state().processes().get(process as usize)?;
-    if !is_behind(&continuation, logic) {
+    if !is_behind(&continuation, own) {
         return None;
     }
     machine.stands();
