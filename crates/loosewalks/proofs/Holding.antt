@@ -8,6 +8,7 @@ use Rattle.model.specs.declared.entry.Entry.{Entry}
 use Rattle.model.specs.declared.entry.Entry.TheVariants.{Turn, Update, ActivateInactive, ActivateNba, ActivateMonitor, Advance}
 use Rattle.model.specs.declared.end.Limits.{Limits}
 use Rattle.model.specs.Design.{Design, Trigger}
+use Rattle.model.specs.Expressions.{Store}
 use Rattle.model.specs.Turns.{contains}
 use Rattle.model.specs.Turns as turns
 use Rattle.model.specs.States.{Action, Evaluate, Continuation, State}
@@ -42,6 +43,7 @@ use Rattle.heldways.specs.Passing.{Passing, AllPass, AreDeaf, put_to_sleep}
 use Rattle.heldways.specs.HeldWays.{StepKeepsOff, HasConeOfAll, HasHeldWay, IsLikeLooselyReached, TransitionsTakeEvents}
 use Rattle.heldways.proofs.HeldCovering.{held_way_covers}
 use Rattle.noted.specs.NotedSteps.{IsEntryNoted, note_of}
+use Rattle.passing.specs.SleepThroughNotes.{SleepThroughNotes}
 use Rattle.loosewalks.specs.declared.active.NamedEntry.{NamedEntry}
 use Rattle.loosewalks.specs.EventWays.{AreOfActors}
 use Rattle.loosewalks.specs.LooseWalking.{IsEventStep, IsSoleLooseWay, TakenLoosely}
@@ -154,6 +156,15 @@ NotePasses passes note = AllPass passes note.changes
 
 abbrev DeafAt : State → Passing → ℕ → Type 0
 DeafAt s passes q = AreDeaf passes (continuation_of s.processes q).triggers
+
+-- who sleeps by what was kept of a start sleeps from there
+pub asleep_from_there : (code own : Compiled) (network : Network) (held cone : List ℕ) (values store : Store) (time now : ℕ) (notes others : List NoteView) (sleepers : List Sleeper) → code ≡ own → values ≡ store → time ≡ now → notes ≡ others
+    → SleepThroughNotes code network held cone values time notes sleepers → SleepThroughNotes own network held cone store now others sleepers
+asleep_from_there code own network held cone values store time now notes others sleepers codes stores times same sleep =
+    subst (λ (k : Compiled). SleepThroughNotes k network held cone store now others sleepers) codes
+    (subst (λ (a : Store). SleepThroughNotes code network held cone a now others sleepers) stores
+    (subst (λ (n : ℕ). SleepThroughNotes code network held cone values n others sleepers) times
+    (subst (λ (ns : List NoteView). SleepThroughNotes code network held cone values time ns sleepers) same sleep)))
 
 module _ (old new : MachineView) (network : Network) (held : List ℕ) where
   abbrev s : State

@@ -127,8 +127,7 @@ fn sleep_on(
     notes: &[StepNote],
     machine: &Machine<'_>,
 ) -> Result<bool, AllocError>
-    requires network { IsNetworkOf machine.now.code holding.entry.scope.network.now }
-    requires widths { length start.now.begin.values ≡ length machine.now.code.widths }
+    requires { length start.now.begin.values ≡ length machine.now.code.widths }
     ensures { IfOk result (λ all. all ≡ true → SleepThroughNotes machine.now.code holding.entry.scope.network.now holding.entry.held.now cone.now.registers.items start.now.begin.values start.now.time notes.now start.now.sleepers.items) }
 {
     if machine.time() != start.time {
@@ -152,8 +151,7 @@ fn take_from(
     room: &mut LooseRoom,
     machine: &mut Machine<'_>,
 ) -> Result<bool, AllocError>
-    requires network { IsNetworkOf machine.old.code holding.entry.scope.network.now }
-    requires start { IsHeldStart machine.old holding.entry.scope.network.now holding.entry.held.now start.now }
+    requires { IsHeldStart machine.old holding.scope.network.now holding.held.now start.now }
     ensures done { IfOk result (λ all. all ≡ true → (limits : Limits) → MayBeHeld machine.old.code (state_at machine.old) holding.entry.scope.network.now holding.entry.held.now → HasHeld (class_in holding.entry.scope.rules.classes.now) limits machine.old holding.entry.scope.network.now holding.entry.held.now room.new.way.items machine.new) }
     ensures code { machine.new.code ≡ machine.old.code }
 {
@@ -184,7 +182,6 @@ pub(crate) fn take_held(
     room: &mut LooseRoom,
     machine: &mut Machine<'_>,
 ) -> Result<bool, AllocError>
-    requires { IsNetworkOf machine.old.code holding.entry.scope.network.now }
     ensures done { IfOk result (λ all. all ≡ true → (limits : Limits) → MayBeHeld machine.old.code (state_at machine.old) holding.entry.scope.network.now holding.entry.held.now → HasHeld (class_in holding.entry.scope.rules.classes.now) limits machine.old holding.entry.scope.network.now holding.entry.held.now room.new.way.items machine.new) }
     ensures code { machine.new.code ≡ machine.old.code }
 {
@@ -202,7 +199,7 @@ pub(crate) fn take_held_until_settled(
     room: &mut LooseRoom,
     machine: &mut Machine<'_>,
 ) -> Result<bool, AllocError>
-    requires { IsNetworkOf machine.old.code holding.entry.scope.network.now }
+    requires { IsNetworkOf machine.old.code holding.scope.network.now }
     ensures done { IfOk result (λ all. all ≡ true → (limits : Limits) → MayBeHeld machine.old.code (state_at machine.old) holding.entry.scope.network.now holding.entry.held.now → HasHeldUntilSettled (class_in holding.entry.scope.rules.classes.now) limits machine.old holding.entry.scope.network.now holding.entry.held.now room.new.way.items machine.new) }
     ensures code { machine.new.code ≡ machine.old.code }
 {

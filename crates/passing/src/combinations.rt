@@ -30,7 +30,7 @@ pub(crate) struct TurnScope<'a> {
     pub(crate) alloc: Global,
     pub(crate) design: &'a Design,
     pub(crate) place: &'a ProcState,
-    pub(crate) now: u64,
+    pub(crate) time: u64,
     pub(crate) values: &'a PlainStore,
     pub(crate) moves: &'a TrackedMoves,
 }
@@ -42,12 +42,12 @@ fn turn_tested(
     values: &PlainStore,
     made: &mut PlainStore,
 ) -> Result<Tested, AllocError>
-    requires now { scope.now ≤ last_time }
-    requires widths { length values.now ≡ length scope.entry.design.now.widths }
-    ensures passes { IfOk result (λ t. t ≡ Pass → (p : ℕ) (turn : turns.Turn) → IsStateOf scope.entry.design.now p scope.entry.place.now → short_turn (design_of scope.entry.design.now) p (remainder_of_state scope.entry.design.now scope.entry.place.now) values.now scope.now ≡ Some turn → AllPass (passes_by scope.entry.moves.now) (changes_made made.old turn.writes)) }
-    ensures made { IfOk result (λ t. t ≡ Pass → (p : ℕ) (turn : turns.Turn) → IsStateOf scope.entry.design.now p scope.entry.place.now → short_turn (design_of scope.entry.design.now) p (remainder_of_state scope.entry.design.now scope.entry.place.now) values.now scope.now ≡ Some turn → made.new ≡ all_given made.old turn.writes) }
+    requires time { scope.time ≤ last_time }
+    requires widths { length values.now ≡ length scope.design.now.widths }
+    ensures passes { IfOk result (λ t. t ≡ Pass → (p : ℕ) (turn : turns.Turn) → IsStateOf scope.entry.design.now p scope.entry.place.now → short_turn (design_of scope.entry.design.now) p (remainder_of_state scope.entry.design.now scope.entry.place.now) values.now scope.entry.time ≡ Some turn → AllPass (passes_by scope.entry.moves.now) (changes_made made.old turn.writes)) }
+    ensures made { IfOk result (λ t. t ≡ Pass → (p : ℕ) (turn : turns.Turn) → IsStateOf scope.entry.design.now p scope.entry.place.now → short_turn (design_of scope.entry.design.now) p (remainder_of_state scope.entry.design.now scope.entry.place.now) values.now scope.entry.time ≡ Some turn → made.new ≡ all_given made.old turn.writes) }
 {
-    match turn_on(log, scope.design, scope.place, scope.now, values) {
+    match turn_on(log, scope.design, scope.place, scope.time, values) {
         Ok(()) => Ok(writes_tested(scope.moves, made, log.writes())),
         Err(FillFault::TooLong) => Ok(Tested::Untold),
         Err(FillFault::Memory) => Err(AllocError),
@@ -97,9 +97,9 @@ fn chosen_tested(
     log: &mut TurnLog,
     chosen: &[NotedChange],
 ) -> Result<Tested, AllocError>
-    requires now { scope.now ≤ last_time }
-    requires widths { length scope.entry.values.now ≡ length scope.entry.design.now.widths }
-    ensures { IfOk result (λ t. t ≡ Pass → PassFrom scope.entry.design.now scope.entry.place.now scope.entry.values.now scope.now (passes_by scope.entry.moves.now) chosen.now []) }
+    requires time { scope.time ≤ last_time }
+    requires widths { length scope.values.now ≡ length scope.design.now.widths }
+    ensures { IfOk result (λ t. t ≡ Pass → PassFrom scope.entry.design.now scope.entry.place.now scope.entry.values.now scope.entry.time (passes_by scope.entry.moves.now) chosen.now []) }
 {
     let mut before = scope.values.copy(scope.alloc)?;
     let mut after = scope.values.copy(scope.alloc)?;
@@ -192,10 +192,10 @@ pub(crate) fn rest_tested(
     chosen: &[NotedChange],
     rest: &[RegId],
 ) -> Result<Tested, AllocError>
-    requires now { scope.now ≤ last_time }
-    requires widths { length scope.entry.values.now ≡ length scope.entry.design.now.widths }
-    requires tracked { (r : ℕ) → contains rest.now r ≡ true → contains scope.entry.moves.now.tracked.items r ≡ true }
-    ensures { IfOk result (λ t. t ≡ Pass → PassFrom scope.entry.design.now scope.entry.place.now scope.entry.values.now scope.now (passes_by scope.entry.moves.now) chosen.now rest.now) }
+    requires time { scope.time ≤ last_time }
+    requires widths { length scope.values.now ≡ length scope.design.now.widths }
+    requires tracked { (r : ℕ) → contains rest.now r ≡ true → contains scope.moves.now.tracked.items r ≡ true }
+    ensures { IfOk result (λ t. t ≡ Pass → PassFrom scope.entry.design.now scope.entry.place.now scope.entry.values.now scope.entry.time (passes_by scope.entry.moves.now) chosen.now rest.now) }
 {
     if rest.is_empty() {
         return chosen_tested(scope, log, chosen);

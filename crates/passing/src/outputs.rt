@@ -2,7 +2,6 @@
 ghost use Rattle.std.specs.Prelude.{◌≡◌, ◌≤◌, ℕ, true, [], length, IfOk};
 ghost use Rattle.model.specs.Runs.{last_time};
 ghost use Rattle.model.specs.Turns.{contains};
-ghost use Rattle.combinational.specs.Found.{IsNetworkOf};
 ghost use Rattle.regions.specs.Machine.{state_at};
 ghost use Rattle.passing.specs.Moves.{passes_by};
 ghost use Rattle.passing.specs.Combinations.{PassFrom, MemberPasses};
@@ -42,10 +41,10 @@ fn are_many(scope: TurnScope<'_>, inputs: &[RegId]) -> Result<bool, AllocError> 
 
 // Tests the turns of a process on whatever values these inputs may pass to, where they aren't too many.
 fn inputs_tested(scope: TurnScope<'_>, inputs: &[RegId]) -> Result<Tested, AllocError>
-    requires now { scope.now ≤ last_time }
-    requires widths { length scope.entry.values.now ≡ length scope.entry.design.now.widths }
-    requires tracked { (r : ℕ) → contains inputs.now r ≡ true → contains scope.entry.moves.now.tracked.items r ≡ true }
-    ensures { IfOk result (λ t. t ≡ Pass → PassFrom scope.entry.design.now scope.entry.place.now scope.entry.values.now scope.now (passes_by scope.entry.moves.now) [] inputs.now) }
+    requires time { scope.time ≤ last_time }
+    requires widths { length scope.values.now ≡ length scope.design.now.widths }
+    requires tracked { (r : ℕ) → contains inputs.now r ≡ true → contains scope.moves.now.tracked.items r ≡ true }
+    ensures { IfOk result (λ t. t ≡ Pass → PassFrom scope.entry.design.now scope.entry.place.now scope.entry.values.now scope.entry.time (passes_by scope.entry.moves.now) [] inputs.now) }
 {
     if are_many(scope, inputs)? {
         return Ok(Tested::Untold);
@@ -62,8 +61,7 @@ fn member_tested(
     moves: &TrackedMoves,
     process: u32,
 ) -> Result<Tested, AllocError>
-    requires found { IsNetworkOf machine.now.code held.entry.network.now }
-    requires widths { length held.entry.values.now ≡ length machine.now.code.widths }
+    requires { length held.values.now ≡ length machine.now.code.widths }
     ensures { IfOk result (λ t. t ≡ Pass → MemberPasses machine.now.code held.entry.network.now held.entry.cone.now held.entry.values.now (state_at machine.now).time (passes_by moves.now) process) }
 {
     let outputs = outputs_at(held.network, process);
@@ -86,7 +84,7 @@ fn member_tested(
         alloc,
         design: machine.design(),
         place: &place,
-        now: machine.time(),
+        time: machine.time(),
         values: held.values,
         moves,
     };
@@ -100,8 +98,7 @@ pub(crate) fn members_tested(
     held: HeldOutputs<'_>,
     moves: &TrackedMoves,
 ) -> Result<Tested, AllocError>
-    requires found { IsNetworkOf machine.now.code held.entry.network.now }
-    requires widths { length held.entry.values.now ≡ length machine.now.code.widths }
+    requires { length held.values.now ≡ length machine.now.code.widths }
     ensures { IfOk result (λ t. t ≡ Pass → (p : ℕ) → contains held.entry.members.now p ≡ true → MemberPasses machine.now.code held.entry.network.now held.entry.cone.now held.entry.values.now (state_at machine.now).time (passes_by moves.now) p) }
 {
     for process in held.members {

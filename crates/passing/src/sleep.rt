@@ -1,7 +1,6 @@
 //! Whether processes sleep through steps of others, and through all that outputs may be given meanwhile.
 ghost use Rattle.std.specs.Prelude.{◌≡◌, true, not, length, IfOk};
 ghost use Rattle.std.specs.List.{All, list_any};
-ghost use Rattle.combinational.specs.Found.{IsNetworkOf};
 ghost use Rattle.heldways.specs.Passing.{AllPass};
 ghost use Rattle.regions.specs.Machine.{state_at};
 ghost use Rattle.passing.specs.Moves.{passes_by};
@@ -50,8 +49,7 @@ fn moves_tested(
     notes: &[StepNote],
     moves: &TrackedMoves,
 ) -> Result<Tested, AllocError>
-    requires found { IsNetworkOf machine.now.code held.entry.network.now }
-    requires widths { length held.entry.values.now ≡ length machine.now.code.widths }
+    requires { length held.values.now ≡ length machine.now.code.widths }
     ensures { IfOk result (λ t. t ≡ Pass → SleepThroughNotes machine.now.code held.entry.network.now held.entry.members.now held.entry.cone.now held.entry.values.now (state_at machine.now).time notes.now sleepers.now) }
 {
     if !moves.are_closed() {
@@ -76,8 +74,7 @@ pub fn sleep_through(
     sleepers: &[Sleeper],
     notes: &[StepNote],
 ) -> Result<bool, AllocError>
-    requires found { IsNetworkOf machine.now.code held.entry.network.now }
-    requires widths { length held.entry.values.now ≡ length machine.now.code.widths }
+    requires { length held.values.now ≡ length machine.now.code.widths }
     ensures { IfOk result (λ all. all ≡ true → SleepThroughNotes machine.now.code held.entry.network.now held.entry.members.now held.entry.cone.now held.entry.values.now (state_at machine.now).time notes.now sleepers.now) }
 {
     if sleepers.is_empty() {

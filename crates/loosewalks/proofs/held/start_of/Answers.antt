@@ -1,5 +1,5 @@
 -- What is kept of the start.
-use Rattle.std.proofs.Common.{ℕ, ◌≤◌, ◌∙◌, List, map, ap, sym, arith}
+use Rattle.std.proofs.Common.{ℕ, ◌≤◌, ◌∙◌, List, map, ap, arith}
 use Rattle.model.specs.Laws.{evaluations_in}
 use Rattle.model.specs.Turns.{contains}
 use Rattle.regions.specs.Queue.{evaluation_event}
@@ -21,7 +21,7 @@ returns-in-Some c =
       active = λ p is.
           let some : 1 ≤ evaluations_in p (map evaluation_event es) = omega (arith, is, inside_told m.core c.state.result.now us es p c.active.ensures c.state.ensures) in
           ap (λ (l : List ℕ). contains l p) c.in_ok-pending.ensures ∙ evaluated_there p es some;
-      sleepers = found_there _ c.in-Some.sleepers (λ v. AreSleepers m.code (state_at m) network held v.items) c.in-Some.is c.in_ok-sleepers_of.ensures;
+      sleepers = found_there _ c.in-Some.sleepers (λ v. AreSleepers m.code (state_at m) network held v.items) c.in-Some.is c.in_ok-sleepers.ensures;
       aside = c.in_ok-aside.ensures;
       time = c.time.ensures;
       begins = c.in_ok-begin.ensures;
