@@ -1,5 +1,5 @@
 -- Moves that lead through each other: what passes goes on.
-use Rattle.std.proofs.Common.{◌≡◌, ℕ, Bool, true, false, ◌||◌, List, ◌⊎◌, inl, inr, refl, sym, subst, ◌∙◌}
+use Rattle.std.proofs.Common.{◌≡◌, ℕ, Bool, true, false, not, ◌||◌, List, ◌⊎◌, inl, inr, refl, sym, subst, ◌∙◌}
 use Rattle.std.specs.List.{All}
 use Rattle.logic4.specs.Vector.{Vector}
 use Rattle.logic4.specs.Operators.{same_vector}
@@ -14,6 +14,14 @@ use Rattle.passing.proofs.Found.{MoveOf, move_found, passes_untracked, passes_tr
 first_true : (a b : Bool) → a ≡ true → (a || b) ≡ true
 first_true true b h = refl
 first_true false b h = cc
+
+-- two values that differ aren't the same
+pub differ_never : (u v : Vector) → not (same_vector u v) ≡ true → u ≡ v → ⊥
+differ_never u v differ same = never (same_vector u v) differ (subst (λ (w : Vector). same_vector u w ≡ true) same (same_vector-self u))
+  where
+    never : (b : Bool) → not b ≡ true → b ≡ true → ⊥
+    never true h g = cc
+    never false h g = cc
 
 -- the test of what may pass
 abbrev Leads : List NotedChange → ℕ → Vector → Vector → Type 0

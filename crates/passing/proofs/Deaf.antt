@@ -1,13 +1,14 @@
 -- Who waits for none of the moves of registers that are tracked, and for no other register, waits for no change that passes.
 use Rattle.std.proofs.Common.{◌≡◌, ℕ, Bool, true, false, ◌&&◌, ◌||◌, ◌==◌, List, [], ◌∷◌, ◌⊎◌, inl, inr, refl, sym, ap, subst, ◌∙◌, if◌then◌else◌, eqb-true, true≢false}
-use Rattle.std.specs.List.{All}
+use Rattle.std.specs.List.{All, list_any}
 use Rattle.std.proofs.lemmas.List.Elements.{All-head, All-tail}
 use Rattle.logic4.specs.Vector.{Vector}
-use Rattle.logic4.specs.declared.digit.Edge.{Edge}
 use Rattle.logic4.specs.declared.digit.Edge.TheVariants.{Same}
 use Rattle.logic4.specs.Edges.{edge, least_edge}
 use Rattle.logic4.specs.Operators.{same_vector}
 use Rattle.model.specs.Design.{Trigger}
+use Rattle.model.specs.declared.tree.Change.{Change}
+use Rattle.model.specs.declared.tree.Change.TheVariants.{Any, Posedge, Negedge}
 use Rattle.model.specs.Turns.{contains}
 use Rattle.model.specs.States.{edge_matches, wakes}
 use Rattle.certificates.specs.declared.changes.NotedChange.{NotedChange}
@@ -22,13 +23,18 @@ and_none false = refl
 
 -- nobody waits for no change
 
-quiet_first : (ts : List Trigger) (r : ℕ) (e : Edge) (b rest : Bool) → rest ≡ false → ((b && false) || rest) ≡ false
-quiet_first ts r e b rest h = ap (λ c. c || rest) (and_none b) ∙ h
+quiet_first : (b rest : Bool) → rest ≡ false → ((b && false) || rest) ≡ false
+quiet_first b rest h = ap (λ c. c || rest) (and_none b) ∙ h
+
+matches_same : (change : Change) → edge_matches change Same ≡ false
+matches_same Any = refl
+matches_same Posedge = refl
+matches_same Negedge = refl
 
 same_quiet : (ts : List Trigger) (r : ℕ) (old new : Vector) → edge old new ≡ Same → wakes ts r old new ≡ false
 same_quiet [] r old new is = refl
 same_quiet (t ∷ ts) r old new is =
-    ap (λ e. ((t.1 == r) && edge_matches t.0 e) || wakes ts r old new) is ∙ quiet_first ts r Same (t.1 == r) (wakes ts r old new) (same_quiet ts r old new is)
+    ap (λ b. ((t.1 == r) && b) || wakes ts r old new) (ap (edge_matches t.0) is ∙ matches_same t.0) ∙ quiet_first (t.1 == r) (wakes ts r old new) (same_quiet ts r old new is)
 
 same_edge : (old new : Vector) → same_vector old new ≡ true → edge old new ≡ Same
 same_edge old new same = ap (λ b. if b then Same else least_edge old new) same
@@ -45,6 +51,16 @@ other_quiet tracked [] r old new all none = refl
 other_quiet tracked (t ∷ ts) r old new all none =
     other_if tracked t r (t.1 == r) (edge_matches t.0 (edge old new)) (wakes ts r old new) refl (All-head (λ (u : Trigger). contains tracked u.1 ≡ true) t ts all) none
     (other_quiet tracked ts r old new (All-tail (λ (u : Trigger). contains tracked u.1 ≡ true) t ts all) none)
+
+-- nor is who waits for no change of the register at all
+
+pub wakes_never : (ts : List Trigger) (r : ℕ) (old new : Vector) → list_any (λ (t : Trigger). t.1 == r) ts ≡ false → wakes ts r old new ≡ false
+wakes_never [] r old new none = refl
+wakes_never (t ∷ ts) r old new none = step (t.1 == r) (edge_matches t.0 (edge old new)) none
+  where
+    step : (here match : Bool) → (here || list_any (λ (u : Trigger). u.1 == r) ts) ≡ false → ((here && match) || wakes ts r old new) ≡ false
+    step true match h = cc
+    step false match h = wakes_never ts r old new h
 
 -- a move isn't one for which these wait
 abbrev pub IsQuietAt : List Trigger → NotedChange → Type 0

@@ -3,5 +3,8 @@ pub mod Found
 pub mod Closed
 pub mod Deaf
 pub mod Written
+pub mod Evaluated
+pub mod Choices
 pub mod Chosen
 pub mod Members
+pub mod Nobody

@@ -1,15 +1,18 @@
 -- What is tested of the outputs of each member, together.
-use Rattle.std.proofs.Common.{◌≡◌, ℕ, Bool, true, false, List, [], ◌∷◌, inr, map, ◌<◌, refl, subst, ◌==◌, ◌||◌, eq-eqb, arith}
+use Rattle.std.proofs.Common.{◌≡◌, ℕ, Bool, true, false, not, List, [], ◌∷◌, Option, Some, None, inr, map, ◌<◌, refl, sym, ap, subst, ◌∙◌, ◌==◌, ◌||◌, eq-eqb, eqb-true, true≢false, arith}
+use Rattle.std.specs.Prelude.{slice_get}
+use Rattle.std.specs.List.{list_any}
 use Rattle.logic4.specs.Vector.{Vector}
 use Rattle.model.specs.Expressions.{Store, value_of}
 use Rattle.model.specs.Turns.{contains}
 use Rattle.orders.specs.Apart.{given, all_given}
 use Rattle.design.specs.Compiled.{Compiled, design_of}
 use Rattle.design.specs.declared.code.ProcState.{ProcState}
-use Rattle.phases.specs.Phase.{IsBlock, ComputesOutputs}
+use Rattle.phases.specs.Phase.{Block, IsBlock, ComputesOutputs}
 use Rattle.footprints.specs.Footprints.{change_made, changes_made}
+use Rattle.combinational.specs.declared.block.Logic.{Logic}
 use Rattle.combinational.specs.declared.network.Network.{Network}
-use Rattle.settling.specs.Settling.{block_at, IsPlaceBehind}
+use Rattle.settling.specs.Settling.{block_or, block_at, IsPlaceBehind}
 use Rattle.heldways.specs.Passing.{Passing, IsPassing, AllPass, IsInCone, OutputsPass}
 use Rattle.passing.specs.declared.moves.TrackedMoves.{TrackedMoves}
 use Rattle.passing.specs.Moves.{passes_by}
@@ -53,6 +56,48 @@ untracked_member code network cone values now moves p none store other turn next
     let c : ComputesOutputs (block_at code network p) turn = computes (design_of code) p (block_at code network p) store now turn is at in
     let c' : ComputesOutputs (block_at code network p) next = computes (design_of code) p (block_at code network p) other now next is at' in
     (untracked_pass moves values turn.writes (λ r wrote. none r (c.writes r wrote)), untracked_pass moves (all_given store turn.writes) next.writes (λ r wrote. none r (c'.writes r wrote)))
+
+-- a process without logic has no outputs
+pub member_if : (code : Compiled) (network : Network) (cone : List ℕ) (values : Store) (now : ℕ) (moves : TrackedMoves) (p : ℕ) (o : Option (Option Logic)) → slice_get network.logics.items p ≡ o
+    → ((logic : Logic) → slice_get network.logics.items p ≡ Some (Some logic) → MemberPasses code network cone values now (passes_by moves) p) → MemberPasses code network cone values now (passes_by moves) p
+member_if code network cone values now moves p (Some (Some logic)) is h = h logic is
+member_if code network cone values now moves p (Some None) is h =
+    untracked_member code network cone values now moves p (λ r there. absurd (never r (sym (ap (λ (b : Block). contains b.outputs r) (ap (block_or code) is)) ∙ there)))
+  where
+    never : (r : ℕ) → contains [] r ≡ true → ⊥
+    never r there = cc
+member_if code network cone values now moves p None is h =
+    untracked_member code network cone values now moves p (λ r there. absurd (never r (sym (ap (λ (b : Block). contains b.outputs r) (ap (block_or code) is)) ∙ there)))
+  where
+    never : (r : ℕ) → contains [] r ≡ true → ⊥
+    never r there = cc
+
+-- one of these registers is outside others, or each is inside
+
+pub some_outside : (cone rs : List ℕ) → list_any (λ q. not (contains cone q)) rs ≡ true → ((r : ℕ) → contains rs r ≡ true → contains cone r ≡ true) → ⊥
+some_outside cone [] any inside = cc
+some_outside cone (q ∷ rs) any inside = step (contains cone q) refl any
+  where
+    here : (a b : Bool) → a ≡ true → (a || b) ≡ true
+    here true b h = refl
+    here false b h = cc
+
+    later : (a b : Bool) → b ≡ true → (a || b) ≡ true
+    later true b h = refl
+    later false b h = h
+
+    step : (b : Bool) → contains cone q ≡ b → (not b || list_any (λ x. not (contains cone x)) rs) ≡ true → ⊥
+    step true is h = some_outside cone rs h (λ r there. inside r (later (q == r) (contains rs r) there))
+    step false is h = true≢false (sym (inside q (here (q == q) (contains rs q) (eq-eqb q q refl))) ∙ is)
+
+pub each_inside : (others rs : List ℕ) → list_any (λ q. not (contains others q)) rs ≡ false → (r : ℕ) → contains rs r ≡ true → contains others r ≡ true
+each_inside others [] none r there = absurd (true≢false (sym there))
+each_inside others (q ∷ rs) none r there = step (contains others q) (q == r) refl refl none there
+  where
+    step : (b here : Bool) → contains others q ≡ b → (q == r) ≡ here → (not b || list_any (λ x. not (contains others x)) rs) ≡ false → (here || contains rs r) ≡ true → contains others r ≡ true
+    step false here is at h g = absurd (true≢false h)
+    step true true is at h g = subst (λ n. contains others n ≡ true) (eqb-true q r at) is
+    step true false is at h g = each_inside others rs h r g
 
 -- a member with an output outside the cone
 pub outside_member : (code : Compiled) (network : Network) (cone : List ℕ) (values : Store) (now : ℕ) (passes : Passing) (p : ℕ) → (IsInCone cone (block_at code network p) → ⊥) → MemberPasses code network cone values now passes p

@@ -1,6 +1,7 @@
 -- Writes, one after another, whose changes pass.
-use Rattle.std.proofs.Common.{◌≡◌, ◌<◌, ◌+◌, ℕ, Bool, true, false, List, [], ◌∷◌, ◌++◌, length, take, refl, sym, ap, subst, ◌∙◌, if◌then◌else◌, append_assoc, get_or}
+use Rattle.std.proofs.Common.{◌≡◌, ◌<◌, ◌+◌, ℕ, zero, suc, Bool, true, false, not, ◌||◌, List, [], ◌∷◌, ◌++◌, map, length, take, refl, sym, ap, subst, ◌∙◌, if◌then◌else◌, append_assoc, arith, true≢false, get_or}
 use Rattle.std.specs.Prelude.{slice_set}
+use Rattle.std.specs.List.{list_any}
 use Rattle.std.proofs.lemmas.List.{take_more}
 use Rattle.std.proofs.lemmas.List.Elements.{All-nil, All-cons, All-head, All-tail}
 use Rattle.logic4.specs.Vector.{Vector}
@@ -9,6 +10,8 @@ use Rattle.model.specs.Expressions.{Store, value_of}
 use Rattle.orders.specs.Apart.{given, all_given}
 use Rattle.orders.proofs.Stores.{append-none, all_given-append}
 use Rattle.footprints.specs.Footprints.{RegisterChange, change_made, changes_made}
+use Rattle.certificates.specs.declared.changes.NotedChange.{NotedChange}
+use Rattle.certificates.specs.Changes.{register_change_of}
 use Rattle.heldways.specs.Passing.{Passing, AllPass}
 
 abbrev IsAllowed : Passing → RegisterChange → Type 0
@@ -41,6 +44,12 @@ same_given a r v same = sym (ap (λ b. if b then a else slice_set a r v) same)
 pub other_given : (a : Store) (r : ℕ) (v : Vector) → same_vector (value_of a r) v ≡ false → slice_set a r v ≡ given a (r, v)
 other_given a r v differ = sym (ap (λ b. if b then a else slice_set a r v) differ)
 
+-- a register has the value that it was set to
+pub set_at : (a : Store) (r : ℕ) (v : Vector) → r < length a → value_of (slice_set a r v) r ≡ v
+set_at [] r v lt = absurd (omega (arith, lt))
+set_at (x ∷ a) zero v lt = refl
+set_at (x ∷ a) (suc r) v lt = set_at a r v (omega (arith, lt))
+
 -- several
 
 changes-append : (a : Store) (ws vs : List (ℕ × Vector)) → changes_made a (ws ++ vs) ≡ changes_made a ws ++ changes_made (all_given a ws) vs
@@ -64,3 +73,12 @@ written_more passes a b ws i w lt is so_far all one =
 pub given_more : (a b c : Store) (ws : List (ℕ × Vector)) (i : ℕ) (w : ℕ × Vector) → i < length ws → w ≡ get_or ws i w → b ≡ all_given a (take i ws) → c ≡ given b w → c ≡ all_given a (take (i + 1) ws)
 given_more a b c ws i w lt is so_far one =
     one ∙ ap (λ (x : Store). given x w) so_far ∙ sym (ap (all_given a) (one_more ws i w lt is) ∙ all_given-append a (take i ws) (w ∷ []))
+
+-- changes of which none is barred pass
+pub none_barred : (passes : Passing) (cs : List NotedChange) → list_any (λ c. not (passes c.register c.before c.after)) cs ≡ false → AllPass passes (map register_change_of cs)
+none_barred passes [] none = All-nil (IsAllowed passes)
+none_barred passes (c ∷ cs) none = step (passes c.register c.before c.after) refl none
+  where
+    step : (b : Bool) → passes c.register c.before c.after ≡ b → (not b || list_any (λ x. not (passes x.register x.before x.after)) cs) ≡ false → AllPass passes (register_change_of c ∷ map register_change_of cs)
+    step true is h = All-cons (IsAllowed passes) (register_change_of c) (map register_change_of cs) is (none_barred passes cs h)
+    step false is h = absurd (true≢false h)

@@ -1,6 +1,7 @@
 -- Turns on whatever values the inputs of a process may pass to.
-use Rattle.std.specs.Prelude.{◌≡◌, ◌⊎◌, ℕ, true, List, map, length, Some}
+use Rattle.std.specs.Prelude.{◌≡◌, ◌⊎◌, ℕ, Bool, true, if◌then◌else◌, List, map, length, Some}
 use Rattle.std.specs.List.{All}
+use Rattle.logic4.specs.Vector.{Vector}
 use Rattle.model.specs.Expressions.{Store, value_of}
 use Rattle.model.specs.Turns.{contains, short_turn}
 use Rattle.model.specs.Turns as turns
@@ -19,6 +20,16 @@ use Rattle.heldways.specs.Passing.{Passing, HavePassed, AllPass, IsInCone}
 abbrev pub HaveChosenValues : List NotedChange → Store → Store → Type 0
 HaveChosenValues chosen store other =
     All (λ c. (value_of store c.register ≡ c.before) × (value_of other c.register ≡ c.after)) chosen
+
+-- the value of a choice: the one before, or that after
+abbrev pub chosen_value : Bool → NotedChange → Vector
+chosen_value is_after choice = if is_after then choice.after else choice.before
+
+-- A store agrees, on the registers for which values were chosen, with each that has these: those before, or those after.
+abbrev pub AgreesWithChosen : Bool → List NotedChange → Store → Type 0
+AgreesWithChosen is_after chosen store =
+    (other : Store) → All (λ c. value_of other c.register ≡ chosen_value is_after c) chosen → (r : ℕ)
+    → contains (map (λ c. c.register) chosen) r ≡ true → value_of store r ≡ value_of other r
 
 -- each of these inputs was chosen, or is among the rest
 abbrev pub AreCovered : List ℕ → List NotedChange → List ℕ → Type 0

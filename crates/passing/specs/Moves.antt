@@ -1,6 +1,6 @@
 -- The moves of registers that are tracked, as a test of which values these may pass to.
 use Rattle.std.specs.Prelude.{◌≡◌, ℕ, Bool, true, not, ◌&&◌, ◌||◌, ◌==◌, List}
-use Rattle.std.specs.List.{All, list_any}
+use Rattle.std.specs.List.{All, Contains, list_any}
 use Rattle.logic4.specs.Vector.{Vector}
 use Rattle.logic4.specs.Operators.{same_vector}
 use Rattle.model.specs.Turns.{contains}
@@ -16,6 +16,14 @@ is_move list r old new =
 -- A register that is tracked may pass from a value to the same, and where a move goes; any other from any value to any.
 abbrev pub passes_by : TrackedMoves → Passing
 passes_by moves r old new = not (contains moves.tracked.items r) || (same_vector old new || is_move moves.list.items r old new)
+
+-- the move of a register from one value to another
+abbrev pub move_of : ℕ → Vector → Vector → NotedChange
+move_of r old new = record { register = r; before = old; after = new }
+
+-- these values have each to which a move of a register goes
+abbrev pub HaveAfter : List NotedChange → ℕ → List Vector → Type 0
+HaveAfter list r values = All (λ own. own.register ≡ r → Contains values own.after) list
 
 -- where a move goes on from another one of its register, there is a move through both, or it leads back
 abbrev pub LeadsThrough : List NotedChange → NotedChange → NotedChange → Type 0

@@ -1,8 +1,6 @@
 //! The turns of a process on whatever values its inputs may pass to.
-ghost use Rattle.std.specs.Prelude.{◌≡◌, ◌≤◌, ◌⊎◌, ℕ, true, false, ◌++◌, ◌∷◌, [], length, map, Some, IfOk, OnOk};
-ghost use Rattle.std.specs.List.{All, Contains};
-ghost use Rattle.logic4.specs.Vector.{Vector};
-ghost use Rattle.model.specs.Expressions.{Store as Values, value_of};
+ghost use Rattle.std.specs.Prelude.{◌≡◌, ◌≤◌, ◌==◌, ℕ, true, false, ◌++◌, ◌∷◌, [], length, Some, IfOk};
+ghost use Rattle.model.specs.Expressions.{value_of};
 ghost use Rattle.model.specs.Runs.{last_time};
 ghost use Rattle.model.specs.Turns.{contains, short_turn};
 ghost use Rattle.model.specs.Turns as turns;
@@ -12,9 +10,10 @@ ghost use Rattle.orders.specs.Apart.{all_given};
 ghost use Rattle.footprints.specs.Footprints.{changes_made};
 ghost use Rattle.heldways.specs.Passing.{AllPass};
 ghost use Rattle.passing.specs.Moves.{passes_by};
-ghost use Rattle.passing.specs.Combinations.{PassFrom};
+ghost use Rattle.passing.specs.Combinations.{chosen_value, AgreesWithChosen, PassFrom};
 ghost use Rattle.passing.specs.declared.writes.Tested.TheVariants.{Pass};
 
+use crate::choices::choices_of;
 use crate::moves::TrackedMoves;
 use crate::writes::{Tested, writes_tested};
 use certificates::changes::NotedChange;
@@ -56,9 +55,9 @@ fn turn_tested(
 
 // Gives a register a value, where there is one of its width.
 fn give(store: &mut PlainStore, register: RegId, value: Bits) -> bool
-    ensures given { result ≡ true → (a : Values) → length a ≡ length store.old → value_of a register ≡ value → value_of store.new register ≡ value_of a register }
-    ensures others { result ≡ true → (r : ℕ) → (r ≡ register → ⊥) → value_of store.new r ≡ value_of store.old r }
-    ensures count { result ≡ true → length store.new ≡ length store.old }
+    ensures given { result ≡ true → value_of store.new register ≡ value }
+    ensures others { result ≡ true → (r : ℕ) → (r == register) ≡ false → value_of store.new r ≡ value_of store.old r }
+    ensures count { length store.new ≡ length store.old }
 {
     let old = match store.value(register) {
         Some(old) => old,
@@ -71,19 +70,25 @@ fn give(store: &mut PlainStore, register: RegId, value: Bits) -> bool
     true
 }
 
+// The value of a choice: the one before, or that after.
+fn value_chosen(choice: NotedChange, is_after: bool) -> Bits
+    ensures { result ≡ chosen_value is_after choice }
+{
+    if is_after {
+        choice.after
+    } else {
+        choice.before
+    }
+}
+
 // Gives registers the values that were chosen before, or those that were chosen after.
 fn give_chosen(store: &mut PlainStore, chosen: &[NotedChange], is_after: bool) -> bool
-    ensures before { result ≡ true → is_after ≡ false → (a : Values) → length a ≡ length store.old → All (λ c. value_of a c.register ≡ c.before) chosen.now → (r : ℕ) → contains (map (λ c. c.register) chosen.now) r ≡ true → value_of store.new r ≡ value_of a r }
-    ensures after { result ≡ true → is_after ≡ true → (a : Values) → length a ≡ length store.old → All (λ c. value_of a c.register ≡ c.after) chosen.now → (r : ℕ) → contains (map (λ c. c.register) chosen.now) r ≡ true → value_of store.new r ≡ value_of a r }
-    ensures count { result ≡ true → length store.new ≡ length store.old }
+    ensures agrees { result ≡ true → AgreesWithChosen is_after chosen.now store.new }
+    ensures count { length store.new ≡ length store.old }
 {
     for place in 0..chosen.len() {
         let choice = chosen[place];
-        let value = if is_after {
-            choice.after
-        } else {
-            choice.before
-        };
+        let value = value_chosen(choice, is_after);
         if !give(store, choice.register, value) {
             return false;
         }
@@ -116,62 +121,6 @@ fn chosen_tested(
     }
 }
 
-// Adds the moves of a register from one value to each of these to which it may pass.
-fn add_choices(
-    moves: &TrackedMoves,
-    register: RegId,
-    before: Bits,
-    values: &[Bits],
-    choices: &mut Vec<NotedChange>,
-) -> Result<(), AllocError>
-    ensures kept { OnOk result ((c : NotedChange) → Contains choices.old.items c → Contains choices.new.items c) }
-    ensures added { OnOk result ((v : Vector) → Contains values.now v → passes_by moves.now register before v ≡ true → Contains choices.new.items (record { register = register; before = before; after = v })) }
-{
-    for place in 0..values.len() {
-        let after = values[place];
-        if moves.allow(register, before, after) {
-            choices.push(NotedChange {
-                register,
-                before,
-                after,
-            })?;
-        }
-    }
-    Ok(())
-}
-
-// The values of a register to which it may pass from the start: the one there, and those to which moves lead.
-fn values_of(scope: TurnScope<'_>, register: RegId) -> Result<Vec<Bits>, AllocError>
-    ensures { IfOk result (λ values. contains scope.entry.moves.now.tracked.items register ≡ true → (u v : Vector) → passes_by scope.entry.moves.now register u v ≡ true → (u ≡ value_of scope.entry.values.now register) ⊎ Contains values.items u → Contains values.items v) }
-{
-    let mut values = Vec::new(scope.alloc);
-    if let Some(value) = scope.values.value(register) {
-        values.push(value)?;
-    }
-    for own in &scope.moves.list {
-        if own.register == register {
-            values.push(own.after)?;
-        }
-    }
-    Ok(values)
-}
-
-/// What a register that is tracked may pass to from the start, with all to which it may pass from there: each as a move.
-pub(crate) fn choices_of(
-    scope: TurnScope<'_>,
-    register: RegId,
-) -> Result<Vec<NotedChange>, AllocError>
-    ensures { IfOk result (λ choices. contains scope.entry.moves.now.tracked.items register ≡ true → (u v : Vector) → passes_by scope.entry.moves.now register (value_of scope.entry.values.now register) u ≡ true → passes_by scope.entry.moves.now register u v ≡ true → Contains choices.items (record { register = register; before = u; after = v })) }
-{
-    let values = values_of(scope, register)?;
-    let mut choices = Vec::new(scope.alloc);
-    for place in 0..values.len() {
-        let before = values[place];
-        add_choices(scope.moves, register, before, &values, &mut choices)?;
-    }
-    Ok(choices)
-}
-
 // What was chosen, and one choice more.
 fn with_choice(
     alloc: Global,
@@ -200,7 +149,12 @@ pub(crate) fn rest_tested(
     if rest.is_empty() {
         return chosen_tested(scope, log, chosen);
     }
-    let choices = choices_of(scope, rest[0])?;
+    let start = match scope.values.value(rest[0]) {
+        Some(start) => start,
+        None => return Ok(Tested::Untold),
+    };
+    let found = choices_of(scope.alloc, scope.moves, rest[0], start)?;
+    let choices = found.as_slice();
     for place in 0..choices.len() {
         let longer = with_choice(scope.alloc, chosen, choices[place])?;
         match rest_tested(scope, log, &longer, rest.split_at(1).1)? {

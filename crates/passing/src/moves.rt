@@ -15,7 +15,7 @@ const MOST_MOVES: usize = 256;
 
 /// The moves of the registers that are tracked. Any other register may pass from any value to any.
 #[derive(Drop)]
-pub struct TrackedMoves {
+pub(crate) struct TrackedMoves {
     pub(crate) tracked: Vec<RegId>,
     pub(crate) list: Vec<NotedChange>,
 }
@@ -86,15 +86,25 @@ impl TrackedMoves {
         are_closed(&self.list)
     }
 
+    // Adds the moves through two moves, where one goes on from the other.
+    fn add_both(&mut self, one: NotedChange, other: NotedChange) -> Result<(), AllocError> {
+        if one.register != other.register {
+            return Ok(());
+        }
+        if one.after == other.before {
+            self.push(one.register, one.before, other.after)?;
+        }
+        if other.after == one.before {
+            self.push(one.register, other.before, one.after)?;
+        }
+        Ok(())
+    }
+
     // Adds what goes on from a move, and what it goes on from.
-    fn add_through(&mut self, move_made: NotedChange) -> Result<(), AllocError> {
+    fn add_through(&mut self, own: NotedChange) -> Result<(), AllocError> {
         for place in 0..self.list.len() {
-            let own = self.list[place];
-            if own.register == move_made.register && own.after == move_made.before {
-                self.push(own.register, own.before, move_made.after)?;
-            }
-            if own.register == move_made.register && move_made.after == own.before {
-                self.push(own.register, move_made.before, own.after)?;
+            if let Some(other) = self.list.get(place).copied() {
+                self.add_both(own, other)?;
             }
         }
         Ok(())

@@ -7,7 +7,8 @@ ghost use Rattle.passing.specs.Moves.{passes_by};
 ghost use Rattle.passing.specs.Combinations.{PassFrom, MemberPasses};
 ghost use Rattle.passing.specs.declared.writes.Tested.TheVariants.{Pass};
 
-use crate::combinations::{TurnScope, choices_of, rest_tested};
+use crate::choices::choices_of;
+use crate::combinations::{TurnScope, rest_tested};
 use crate::moves::TrackedMoves;
 use crate::writes::Tested;
 use combinational::{Network, share};
@@ -33,8 +34,10 @@ pub struct HeldOutputs<'a> {
 fn are_many(scope: TurnScope<'_>, inputs: &[RegId]) -> Result<bool, AllocError> {
     let mut count = 1usize;
     for input in inputs {
-        let choices = choices_of(scope, *input)?;
-        count = count.saturating_mul(choices.len());
+        if let Some(start) = scope.values.value(*input) {
+            let choices = choices_of(scope.alloc, scope.moves, *input, start)?;
+            count = count.saturating_mul(choices.len());
+        }
     }
     Ok(count > MOST_COMBINATIONS)
 }

@@ -37,6 +37,18 @@ fn is_tracked(control: &Control, moves: &TrackedMoves) -> bool
     true
 }
 
+// Whether an event control waits for none of these moves.
+fn is_quiet(control: &Control, list: &[NotedChange]) -> bool
+    ensures { result ≡ true → All (λ own. wakes control.now own.register own.before own.after ≡ false) list.now }
+{
+    for place in 0..list.len() {
+        if may_wait_for(control, list[place]) {
+            return false;
+        }
+    }
+    true
+}
+
 // Whether an event control waits for no change that passes.
 fn is_deaf(control: &Control, moves: &TrackedMoves) -> bool
     ensures { result ≡ true → AreDeaf (passes_by moves.now) control.now }
@@ -44,12 +56,7 @@ fn is_deaf(control: &Control, moves: &TrackedMoves) -> bool
     if !is_tracked(control, moves) {
         return false;
     }
-    for place in 0..moves.list.len() {
-        if may_wait_for(control, moves.list[place]) {
-            return false;
-        }
-    }
-    true
+    is_quiet(control, &moves.list)
 }
 
 // Whether the event control with a number waits for no change that passes.

@@ -6,4 +6,4 @@ use Rattle.passing.specs.Combinations.{MemberPasses}
 use Rattle.passing.proofs.outputs.members_tested.Given as goal
 
 abbrev pub invariant-loop-process : goal.invariant-loop-process
-invariant-loop-process l = (k d : ℕ) → k < l.process-index → MemberPasses l.machine.code l.held.network l.held.cone l.held.values (state_at l.machine).time (passes_by l.moves) (get_or l.held.members k d)
+invariant-loop-process l = (k d : ℕ) → k < l.process-index → MemberPasses l.machine.code l.held.network.now l.held.cone.now l.held.values.now (state_at l.machine).time (passes_by l.moves) (get_or l.held.members.now k d)

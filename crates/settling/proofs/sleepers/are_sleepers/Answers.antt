@@ -4,6 +4,7 @@ use Rattle.std.proofs.lemmas.List.{get_or_default}
 use Rattle.model.specs.Turns.{contains}
 use Rattle.model.specs.Laws.{evaluations_in}
 use Rattle.regions.specs.Machine.{state_at}
+use Rattle.settling.specs.declared.sleepers.Sleeper.{Sleeper}
 use Rattle.settling.proofs.Listed.{upto_more}
 use Rattle.settling.proofs.Sleeping.{IsSleeper, of_sleeping}
 use Rattle.settling.proofs.sleepers.are_sleepers.Goals as goal
@@ -15,15 +16,15 @@ loop-place-preserved c =
     let i = c.loop-place.place in
     let within : i < length sleepers = omega arith in
     let Is = IsSleeper m.code (state_at m) c.args.members.now in
+    let none : Sleeper = record { process = 0; control = 0 } in
     upto_more Is sleepers i c.loop-place.invariant
     (λ d.
-    subst Is (get_or_default sleepers i c.index-sleepers-place.result d within)
-    (subst Is c.index-sleepers-place.is
+    subst Is (get_or_default sleepers i none d within)
     (record {
       outside = c.is_sleeper.ensures.outside c.if-not-is_sleeper.false;
       idle = c.is_sleeper.ensures.idle c.if-not-is_sleeper.false;
       waits = c.is_sleeper.ensures.waits c.if-not-is_sleeper.false;
-    })))
+    }))
 
 pub returns-clause-outside : goal.returns-clause-outside
 returns-clause-outside c = λ on q there.
