@@ -233,8 +233,8 @@ module _ (class : ℕ → ℕ) (design : Design) (limits : Limits) (s : State) (
 
 pub held_way_covers : HeldWayCovers
 held_way_covers class design limits members block rank s g way like held some events goes over settle =
-    let events : (p : ℕ) → HasOneEvent s p = like_has_one class design s like in
-    let prefixed : Prefixed class design limits s = λ entries g end run here. held_is_prefix_here class design members block rank s events held limits entries g end run here in
+    let single : (p : ℕ) → HasOneEvent s p = like_has_one class design s like in
+    let prefixed : Prefixed class design limits s = λ entries g end run here. held_is_prefix_here class design members block rank s single held limits entries g end run here in
     let settle' : SettleBetween design members block s goes.effect.state = settle_on design members block s g.state goes.effect.state (sym goes.one_node.1.store) settle in
     let one_end : IsOneEnd class design s goes.effect = λ f entries others ends ends'.
     held_ends_in_one_node class design members block rank (silent s) f goes.effect entries others like held ends ends' settle' in

@@ -157,11 +157,11 @@ first_here r rest = ap (λ b. b || contains rest r) (eq-eqb r r refl)
 
 chosen_there : (chosen : List NotedChange) (c : NotedChange) (q : ℕ) → contains (registers_chosen chosen) q ≡ true → contains (registers_chosen (chosen ++ c ∷ [])) q ≡ true
 chosen_there [] c q there = cc
-chosen_there (d ∷ chosen) c q there = step (d.register == q) there
+chosen_there (d ∷ chosen) c q there = step (d.register == q) there (chosen_there chosen c q)
   where
-    step : (here : Bool) → (here || contains (registers_chosen chosen) q) ≡ true → (here || contains (registers_chosen (chosen ++ c ∷ [])) q) ≡ true
-    step true h = refl
-    step false h = chosen_there chosen c q h
+    step : (here : Bool) → (here || contains (registers_chosen chosen) q) ≡ true → (contains (registers_chosen chosen) q ≡ true → contains (registers_chosen (chosen ++ c ∷ [])) q ≡ true) → (here || contains (registers_chosen (chosen ++ c ∷ [])) q) ≡ true
+    step true h later = refl
+    step false h later = later h
 
 choice_there : (chosen : List NotedChange) (c : NotedChange) (q : ℕ) → (c.register == q) ≡ true → contains (registers_chosen (chosen ++ c ∷ [])) q ≡ true
 choice_there [] c q is = ap (λ b. b || false) is

@@ -56,11 +56,11 @@ other_quiet tracked (t ∷ ts) r old new all none =
 
 pub wakes_never : (ts : List Trigger) (r : ℕ) (old new : Vector) → list_any (λ (t : Trigger). t.1 == r) ts ≡ false → wakes ts r old new ≡ false
 wakes_never [] r old new none = refl
-wakes_never (t ∷ ts) r old new none = step (t.1 == r) (edge_matches t.0 (edge old new)) none
+wakes_never (t ∷ ts) r old new none = step (t.1 == r) (edge_matches t.0 (edge old new)) none (wakes_never ts r old new)
   where
-    step : (here match : Bool) → (here || list_any (λ (u : Trigger). u.1 == r) ts) ≡ false → ((here && match) || wakes ts r old new) ≡ false
-    step true match h = cc
-    step false match h = wakes_never ts r old new h
+    step : (here match : Bool) → (here || list_any (λ (u : Trigger). u.1 == r) ts) ≡ false → (list_any (λ (u : Trigger). u.1 == r) ts ≡ false → wakes ts r old new ≡ false) → ((here && match) || wakes ts r old new) ≡ false
+    step true match h later = cc
+    step false match h later = later h
 
 -- a move isn't one for which these wait
 abbrev pub IsQuietAt : List Trigger → NotedChange → Type 0

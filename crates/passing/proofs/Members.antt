@@ -76,7 +76,7 @@ member_if code network cone values now moves p None is h =
 
 pub some_outside : (cone rs : List ℕ) → list_any (λ q. not (contains cone q)) rs ≡ true → ((r : ℕ) → contains rs r ≡ true → contains cone r ≡ true) → ⊥
 some_outside cone [] any inside = cc
-some_outside cone (q ∷ rs) any inside = step (contains cone q) refl any
+some_outside cone (q ∷ rs) any inside = step (contains cone q) refl any (λ h. some_outside cone rs h (λ r there. inside r (later (q == r) (contains rs r) there)))
   where
     here : (a b : Bool) → a ≡ true → (a || b) ≡ true
     here true b h = refl
@@ -86,18 +86,19 @@ some_outside cone (q ∷ rs) any inside = step (contains cone q) refl any
     later true b h = refl
     later false b h = h
 
-    step : (b : Bool) → contains cone q ≡ b → (not b || list_any (λ x. not (contains cone x)) rs) ≡ true → ⊥
-    step true is h = some_outside cone rs h (λ r there. inside r (later (q == r) (contains rs r) there))
-    step false is h = true≢false (sym (inside q (here (q == q) (contains rs q) (eq-eqb q q refl))) ∙ is)
+    step : (b : Bool) → contains cone q ≡ b → (not b || list_any (λ x. not (contains cone x)) rs) ≡ true → (list_any (λ x. not (contains cone x)) rs ≡ true → ⊥) → ⊥
+    step true is h rest = rest h
+    step false is h rest = true≢false (sym (inside q (here (q == q) (contains rs q) (eq-eqb q q refl))) ∙ is)
 
 pub each_inside : (others rs : List ℕ) → list_any (λ q. not (contains others q)) rs ≡ false → (r : ℕ) → contains rs r ≡ true → contains others r ≡ true
 each_inside others [] none r there = absurd (true≢false (sym there))
-each_inside others (q ∷ rs) none r there = step (contains others q) (q == r) refl refl none there
+each_inside others (q ∷ rs) none r there = step (contains others q) (q == r) refl refl none there (λ h. each_inside others rs h r)
   where
-    step : (b here : Bool) → contains others q ≡ b → (q == r) ≡ here → (not b || list_any (λ x. not (contains others x)) rs) ≡ false → (here || contains rs r) ≡ true → contains others r ≡ true
-    step false here is at h g = absurd (true≢false h)
-    step true true is at h g = subst (λ n. contains others n ≡ true) (eqb-true q r at) is
-    step true false is at h g = each_inside others rs h r g
+    step : (b here : Bool) → contains others q ≡ b → (q == r) ≡ here → (not b || list_any (λ x. not (contains others x)) rs) ≡ false → (here || contains rs r) ≡ true
+        → (list_any (λ x. not (contains others x)) rs ≡ false → contains rs r ≡ true → contains others r ≡ true) → contains others r ≡ true
+    step false here is at h g rest = absurd (true≢false h)
+    step true true is at h g rest = subst (λ n. contains others n ≡ true) (eqb-true q r at) is
+    step true false is at h g rest = rest h g
 
 -- a member with an output outside the cone
 pub outside_member : (code : Compiled) (network : Network) (cone : List ℕ) (values : Store) (now : ℕ) (passes : Passing) (p : ℕ) → (IsInCone cone (block_at code network p) → ⊥) → MemberPasses code network cone values now passes p

@@ -77,8 +77,9 @@ given_more a b c ws i w lt is so_far one =
 -- changes of which none is barred pass
 pub none_barred : (passes : Passing) (cs : List NotedChange) → list_any (λ c. not (passes c.register c.before c.after)) cs ≡ false → AllPass passes (map register_change_of cs)
 none_barred passes [] none = All-nil (IsAllowed passes)
-none_barred passes (c ∷ cs) none = step (passes c.register c.before c.after) refl none
+none_barred passes (c ∷ cs) none = step (passes c.register c.before c.after) refl none (none_barred passes cs)
   where
-    step : (b : Bool) → passes c.register c.before c.after ≡ b → (not b || list_any (λ x. not (passes x.register x.before x.after)) cs) ≡ false → AllPass passes (register_change_of c ∷ map register_change_of cs)
-    step true is h = All-cons (IsAllowed passes) (register_change_of c) (map register_change_of cs) is (none_barred passes cs h)
-    step false is h = absurd (true≢false h)
+    step : (b : Bool) → passes c.register c.before c.after ≡ b → (not b || list_any (λ x. not (passes x.register x.before x.after)) cs) ≡ false
+        → (list_any (λ x. not (passes x.register x.before x.after)) cs ≡ false → AllPass passes (map register_change_of cs)) → AllPass passes (register_change_of c ∷ map register_change_of cs)
+    step true is h later = All-cons (IsAllowed passes) (register_change_of c) (map register_change_of cs) is (later h)
+    step false is h later = absurd (true≢false h)

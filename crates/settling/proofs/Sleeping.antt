@@ -17,11 +17,11 @@ use Rattle.settling.specs.Settling.{block_or, block_at, HaveOutputs, WaitsBy, Ar
 -- what is in neither list is in none of both
 in_neither : (ms ns : List ℕ) (q : ℕ) → contains ms q ≡ false → contains ns q ≡ false → contains (ms ++ ns) q ≡ false
 in_neither [] ns q none none' = none'
-in_neither (m ∷ ms) ns q none none' = step (m == q) none
+in_neither (m ∷ ms) ns q none none' = step (m == q) none (λ h. in_neither ms ns q h none')
   where
-    step : (here : Bool) → (here || contains ms q) ≡ false → (here || contains (ms ++ ns) q) ≡ false
-    step true h = h
-    step false h = in_neither ms ns q h none'
+    step : (here : Bool) → (here || contains ms q) ≡ false → (contains ms q ≡ false → contains (ms ++ ns) q ≡ false) → (here || contains (ms ++ ns) q) ≡ false
+    step true h later = h
+    step false h later = later h
 
 -- an output of a block is one of the logic that was found
 pub with_logic : (code : Compiled) (network : Network) (p r : ℕ) (o : Option (Option Logic)) → slice_get network.logics.items p ≡ o → contains (block_or code o).outputs r ≡ true
@@ -44,11 +44,11 @@ pub record IsSleeper (code : Compiled) (s : State) (members : List ℕ) (x : Sle
 -- what holds of each sleeper's process holds of each process that sleeps
 pub of_sleeping : (P : ℕ → Type 0) (xs : List Sleeper) (q : ℕ) → All (λ x. P x.process) xs → contains (sleeping xs) q ≡ true → P q
 of_sleeping P [] q all is = cc
-of_sleeping P (x ∷ xs) q all is = step (x.process == q) refl is
+of_sleeping P (x ∷ xs) q all is = step (x.process == q) refl is (of_sleeping P xs q (All-tail (λ (y : Sleeper). P y.process) x xs all))
   where
-    step : (here : Bool) → (x.process == q) ≡ here → (here || contains (sleeping xs) q) ≡ true → P q
-    step true same h = subst P (eqb-true x.process q same) (All-head (λ (y : Sleeper). P y.process) x xs all)
-    step false same h = of_sleeping P xs q (All-tail (λ (y : Sleeper). P y.process) x xs all) h
+    step : (here : Bool) → (x.process == q) ≡ here → (here || contains (sleeping xs) q) ≡ true → (contains (sleeping xs) q ≡ true → P q) → P q
+    step true same h later = subst P (eqb-true x.process q same) (All-head (λ (y : Sleeper). P y.process) x xs all)
+    step false same h later = later h
 
 -- what was told of some sleepers
 pub are_sleepers_so : (code : Compiled) (s : State) (network : Network) (members outputs both : List ℕ) (sleepers : List Sleeper) → HaveOutputs network members outputs → both ≡ members ++ sleeping sleepers

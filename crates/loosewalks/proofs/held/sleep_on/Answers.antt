@@ -23,8 +23,8 @@ returns c =
     let same : (state_at m).time ≡ start.time = sym c.time.ensures ∙ now in
     all_ok c.sleep_through.result _ _
     (λ sleep.
-        subst (λ (n : ℕ). SleepThroughNotes m.code network held cone start.begin.values n notes sleepers) same
-        (subst (λ (a : Store). SleepThroughNotes m.code network held cone a (state_at m).time notes sleepers) c.values.ensures
-        (subst (λ (l : List ℕ). SleepThroughNotes m.code network held l c.values.result.now (state_at m).time notes sleepers) c.deref.ensures.value
-        (subst (λ (xs : List Sleeper). SleepThroughNotes m.code network held c.deref.result.now c.values.result.now (state_at m).time notes xs) c.deref-2.ensures.value sleep))))
+    subst (λ (n : ℕ). SleepThroughNotes m.code network held cone start.begin.values n notes sleepers) same
+    (subst (λ (a : Store). SleepThroughNotes m.code network held cone a (state_at m).time notes sleepers) c.values.ensures
+    (subst (λ (l : List ℕ). SleepThroughNotes m.code network held l c.values.result.now (state_at m).time notes sleepers) c.deref.ensures.value
+    (subst (λ (xs : List Sleeper). SleepThroughNotes m.code network held c.deref.result.now c.values.result.now (state_at m).time notes xs) c.deref-2.ensures.value sleep))))
     c.sleep_through.ensures
