@@ -29,10 +29,10 @@ pub record MoveOf (P : NotedChange → Type 0) (r : ℕ) (old new : Vector) : Ty
 pub move_found : (P : NotedChange → Type 0) (list : List NotedChange) (r : ℕ) (old new : Vector) → All P list → is_move list r old new ≡ true → MoveOf P r old new
 move_found P [] r old new all is = absurd (cc)
 move_found P (m ∷ list) r old new all is =
-    step (either_true (((m.register == r) && same_vector m.before old) && same_vector m.after new) (is_move list r old new) is)
+    step (either_true (((m.register == r) && same_vector m.before old) && same_vector m.after new) (is_move list r old new) is) (move_found P list r old new (All-tail P m list all))
   where
-    step : ((((m.register == r) && same_vector m.before old) && same_vector m.after new) ≡ true) ⊎ (is_move list r old new ≡ true) → MoveOf P r old new
-    step (inl here) =
+    step : ((((m.register == r) && same_vector m.before old) && same_vector m.after new) ≡ true) ⊎ (is_move list r old new ≡ true) → (is_move list r old new ≡ true → MoveOf P r old new) → MoveOf P r old new
+    step (inl here) later =
         let (first, after) = both_true ((m.register == r) && same_vector m.before old) (same_vector m.after new) here in
         let (register, before) = both_true (m.register == r) (same_vector m.before old) first in
         record {
@@ -42,7 +42,7 @@ move_found P (m ∷ list) r old new all is =
           before = same_vector-true m.before old before;
           after = same_vector-true m.after new after;
         }
-    step (inr later) = move_found P list r old new (All-tail P m list all) later
+    step (inr there) later = later there
 
 -- a register that isn't tracked may pass to anything, and one that is where it may
 pub passes_untracked : (moves : TrackedMoves) (r : ℕ) (old new : Vector) → contains moves.tracked.items r ≡ false → passes_by moves r old new ≡ true
