@@ -23,15 +23,17 @@ use Rattle.loose.specs.LooseLaws.{IsOneLooseNode}
 use Rattle.loose.proofs.ClassLists.{alike_in-has_any}
 use Rattle.loose.proofs.LooseSteps.{from_loose, loose_step_keeps_order}
 use Rattle.loosephases.specs.LoosePhase.{EndsPhaseLoosely}
-use Rattle.loosephases.proofs.HeldRuns.{held_is_prefix}
+use Rattle.certificates.proofs.OneEvent.{HasOneEvent}
 use Rattle.certificates.proofs.Prefixes.{none_where_changed}
 use Rattle.looseruns.specs.LooseMoves.{first_number, move, moves_from}
 use Rattle.looseruns.specs.LooseCover.{LeadToOneLooseNode, CoverMoves}
 use Rattle.looseruns.specs.LooseGoing.{GoesLooselyTo}
 use Rattle.looseruns.proofs.Moves.{move_is_loose_step}
 use Rattle.heldways.specs.HeldWays.{TransitionsTakeEvents, HeldWayCovers}
-use Rattle.heldways.proofs.WaysKept.{certified_keep_off}
-use Rattle.heldways.proofs.HeldEnds.{settle_on, held_ends_in_one_node}
+use Rattle.heldways.proofs.OneEventEach.{like_has_one}
+use Rattle.heldways.proofs.HeldEnds.{settle_on}
+use Rattle.heldways.proofs.AsleepRuns.{held_is_prefix_here}
+use Rattle.heldways.proofs.AsleepEnds.{held_ends_in_one_node}
 
 -- transitions up to the first change of the regions
 
@@ -231,8 +233,8 @@ module _ (class : ℕ → ℕ) (design : Design) (limits : Limits) (s : State) (
 
 pub held_way_covers : HeldWayCovers
 held_way_covers class design limits members block rank s g way like held some events goes over settle =
-    let prefixed : Prefixed class design limits s = λ entries g end run here.
-    held_is_prefix class design limits members block rank (silent s) g entries end held.order held.held (certified_keep_off class design members block rank (silent s) like held) run here in
+    let single : (p : ℕ) → HasOneEvent s p = like_has_one class design s like in
+    let prefixed : Prefixed class design limits s = λ entries g end run here. held_is_prefix_here class design members block rank s single held limits entries g end run here in
     let settle' : SettleBetween design members block s goes.effect.state = settle_on design members block s g.state goes.effect.state (sym goes.one_node.1.store) settle in
     let one_end : IsOneEnd class design s goes.effect = λ f entries others ends ends'.
     held_ends_in_one_node class design members block rank (silent s) f goes.effect entries others like held ends ends' settle' in

@@ -27,8 +27,9 @@ use Rattle.loosephases.proofs.PhaseEnds.{loose_phase_completes}
 use Rattle.certificates.specs.CertificateLaws.{NobodyWaits}
 use Rattle.heldmoves.specs.WithoutHeld.{asleep_if, evaluates_held, without_held}
 use Rattle.heldmoves.proofs.LeftAside.{was_there, asleep_at, length_asleep}
-use Rattle.heldways.specs.HeldWays.{HeldEndsInOneNode}
-use Rattle.heldways.proofs.WaysKept.{certified_keep_off, way_order, ends_like}
+use Rattle.certificates.proofs.OneEvent.{HasOneEvent}
+use Rattle.heldways.specs.Passing.{Passing}
+use Rattle.heldways.proofs.WaysKept.{HasCertifiedWay, keep_off_at, way_order, ends_like}
 
 -- where none but members is active, nobody waits without what is held
 
@@ -69,7 +70,7 @@ settle_on design members block start s t same settle p member = on (settle p mem
     on (inl h) = inl h
     on (inr (r, input, differs)) = inr (r, input, λ is. differs (is ∙ ap (λ a. value_of a r) (sym same)))
 
-same_continuation : (xs ys : List Continuation) → length xs ≡ length ys
+pub same_continuation : (xs ys : List Continuation) → length xs ≡ length ys
     → ((p : ℕ) → slice_index_or xs p (record { remainder = []; triggers = [] }) ≡ slice_index_or ys p (record { remainder = []; triggers = [] })) → xs ≡ ys
 same_continuation [] [] len h = refl
 same_continuation [] (y ∷ ys) len h = cc
@@ -145,15 +146,16 @@ settles class design members block rank start f w order lines phase none stand o
     let (lines_k, order_k, phase_k, stays, stand_k) = loose_phase_runs class design members block rank start more w k order phase stand ends.0 ends.1 in
     (k, lines, λ settle. (one more k ends settle).1, none, phase_k, stays, stand_k, ends.2)
 
-pub held_ends_in_one_node : HeldEndsInOneNode
-held_ends_in_one_node class design members block rank e f g entries others like held ends ends' settle =
-    let keep : KeepOffOnWays class design members block e = certified_keep_off class design members block rank e like held in
+pub ends_in_one_node : (class : ℕ → ℕ) (design : Design) (members : List ℕ) (block : ℕ → Block) (rank : ℕ → ℕ) (passes : Passing) (e f g : Effect) (entries others : List Entry) → ((p : ℕ) → HasOneEvent e.state p)
+    → HasCertifiedWay class design members block rank passes e.state → EndsPhaseLoosely class design e entries f → EndsPhaseLoosely class design e others g → SettleBetween design members block e.state g.state → IsOneLooseNode class f g
+ends_in_one_node class design members block rank passes e f g entries others events held ends ends' settle =
+    let keep : KeepOffOnWays class design members block e = λ way w is. keep_off_at class design members block rank passes e.state events held e w way refl is in
     let (way, w, is_way, lines, phase, none, stand, one) = held_is_put_off class design members block rank e f entries held.order held.held keep ends in
     let (way', w', is_way', lines', phase', none', stand', one') = held_is_put_off class design members block rank e g others held.order held.held keep ends' in
-    let order : IsInOrder w.state = way_order class design members block rank e.state like held e w way refl is_way in
-    let order' : IsInOrder w'.state = way_order class design members block rank e.state like held e w' way' refl is_way' in
-    let (near, prints) = ends_like class design members block rank e.state like held e w way refl is_way (nobody_waits class design members block rank w.state order phase none) in
-    let (near', prints') = ends_like class design members block rank e.state like held e w' way' refl is_way' (nobody_waits class design members block rank w'.state order' phase' none') in
+    let order : IsInOrder w.state = way_order class design members block rank passes e.state events held e w way refl is_way in
+    let order' : IsInOrder w'.state = way_order class design members block rank passes e.state events held e w' way' refl is_way' in
+    let (near, prints) = ends_like class design members block rank passes e.state events held e w way refl is_way (nobody_waits class design members block rank w.state order phase none) in
+    let (near', prints') = ends_like class design members block rank passes e.state events held e w' way' refl is_way' (nobody_waits class design members block rank w'.state order' phase' none') in
     let (k, all, at_k, none_w, phase_k, stays, stand_k, over) = settles class design members block rank e.state f w order lines phase none stand one in
     let (z, all', at_z, none_w', phase_z, stays', stand_z, over') = settles class design members block rank e.state g w' order' lines' phase' none' stand' one' in
     let g_z : AlikeIn class g.state z.state = at_z (inl settle) in

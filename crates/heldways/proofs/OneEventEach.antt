@@ -1,6 +1,7 @@
 -- Each process has one event at most, where a state is like what a loose run comes to, and without what is held.
 use Rattle.std.proofs.Common.{◌≡◌, ◌⊎◌, ℕ, ◌≤◌, Bool, true, false, List, [], ◌∷◌, inl, inr, Some, refl, sym, ap, subst, ◌∙◌, if◌then◌else◌, arith}
 use Rattle.model.specs.Design.{Design}
+use Rattle.model.specs.Turns.{contains}
 use Rattle.model.specs.States.{Evaluate, Continuation, State}
 use Rattle.model.specs.Runs.{has_any}
 use Rattle.model.specs.Laws.{evaluations_in}
@@ -21,6 +22,7 @@ use Rattle.heldmoves.specs.WithoutHeld.{asleep_if, asleep_from, without_held}
 use Rattle.heldmoves.specs.HeldMoves.{IsHeldMove, held_moves}
 use Rattle.heldmoves.proofs.LeftAside.{unless, evaluations_left, asleep_at}
 use Rattle.heldmoves.proofs.BesideHeld.{low, goes_low}
+use Rattle.heldways.specs.Passing.{put_to_sleep}
 use Rattle.heldways.specs.HeldWays.{IsLikeLooselyReached}
 
 abbrev waits_at : List Continuation → ℕ → ℕ
@@ -58,9 +60,19 @@ without_has_one held s p one =
       future = one.future;
     }
 
-pub reached_without : (class : ℕ → ℕ) (design : Design) (held : ℕ → Bool) (s : State) → IsLikeLooselyReached class design s → (p : ℕ) → HasOneEvent (without_held held s) p
-reached_without class design held s like p =
-    without_has_one held s p (alike_has_one class like.comes_to s p like.alike (reached class design like.comes_to like.reached p))
+pub like_has_one : (class : ℕ → ℕ) (design : Design) (s : State) → IsLikeLooselyReached class design s → (p : ℕ) → HasOneEvent s p
+like_has_one class design s like p = alike_has_one class like.comes_to s p like.alike (reached class design like.comes_to like.reached p)
+
+-- where some processes sleep
+pub asleep_has_one : (sleepers : List ℕ) (s : State) (p : ℕ) → HasOneEvent s p → HasOneEvent (put_to_sleep sleepers s) p
+asleep_has_one sleepers s p one =
+    let waits : waits_at (asleep_from (contains sleepers) 0 s.processes) p ≡ one_where (has_any (asleep_if (contains sleepers p) (continuation_of s.processes p)).triggers) =
+    ap (λ (x : Continuation). one_where (has_any x.triggers)) (asleep_at (contains sleepers) p s.processes) in
+    record {
+      most = λ u v differ. omega (arith, one.most u v differ, waits, less_asleep (contains sleepers p) (continuation_of s.processes p));
+      nonblocking = one.nonblocking;
+      future = one.future;
+    }
 
 -- a certified run of the others is a certificate
 

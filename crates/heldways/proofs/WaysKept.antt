@@ -9,19 +9,21 @@ use Rattle.model.specs.Design.{Design, Trigger}
 use Rattle.model.specs.Turns.{contains}
 use Rattle.model.specs.Turns as turns
 use Rattle.model.specs.States.{Action, Evaluate, Event, Continuation, State, edge_matches, without}
-use Rattle.model.specs.Runs.{Effect, turn_of, joined}
+use Rattle.model.specs.Runs.{Effect, action_in, turn_of, joined, turn_effect, update_effect}
 use Rattle.model.specs.Laws.{evaluations_in}
 use Rattle.logic4.specs.Edges.{edge}
+use Rattle.logic4.specs.Vector.{Vector}
 use Rattle.orders.specs.Alike.{IsInOrder}
 use Rattle.phases.specs.Phase.{IsActive}
+use Rattle.orders.proofs.Commuting.{turn_step}
 use Rattle.orders.proofs.EventLists.{evaluations-append, find_evaluation}
 use Rattle.phases.proofs.Events.{active_at}
 use Rattle.orders.proofs.Stores.{append-none}
 use Rattle.loose.specs.declared.transition.LooseTransition.{LooseTransition}
 use Rattle.loose.specs.declared.transition.LooseTransition.TheVariants.{Process, FirstOf}
-use Rattle.loose.specs.Loose.{AlikeIn, loose_step}
+use Rattle.loose.specs.Loose.{has_earlier_of_class, AlikeIn, loose_step}
 use Rattle.loose.proofs.ClassStates.{states_in-trans}
-use Rattle.loose.proofs.LooseSteps.{from_loose, loose_step_keeps_order}
+use Rattle.loose.proofs.LooseSteps.{from_loose, to_loose, loose_step_keeps_order}
 use Rattle.phases.specs.Phase.{Block, TakesEvent, triggers}
 use Rattle.phases.proofs.Members.{Standing}
 use Rattle.loosephases.specs.Held.{AreHeldMembers, HasCone, KeepsOffHeld, OthersKeepOff, TakesOther, IsWayOfOthers}
@@ -32,7 +34,7 @@ use Rattle.traces.specs.StandsFor.{FoundOfSet, StandsFor, RunsAlone}
 use Rattle.traces.specs.Restricted.{restricted}
 use Rattle.traces.proofs.RunLaws.{runs_both, runs_once}
 use Rattle.traces.proofs.CertifiedSets.{certificate_stands_for}
-use Rattle.footprints.specs.Footprints.{RegisterChange, Footprint, changed_registers, matches_any, footprint, turn_footprint, update_footprint, action_footprint}
+use Rattle.footprints.specs.Footprints.{RegisterChange, Footprint, changes_made, changed_registers, matches_any, footprint, turn_footprint, update_footprint, action_footprint}
 use Rattle.footprints.specs.Moves.{OrderedState, IsWaiting, GivesTo}
 use Rattle.footprints.proofs.Waking.{wakes_process, one_where, evaluations_made, made_evaluations}
 use Rattle.footprints.proofs.Deeds.{Deed, Done, changes_by}
@@ -43,8 +45,27 @@ use Rattle.heldmoves.specs.HeldMoves.{IsHeldMove, held_moves}
 use Rattle.heldmoves.proofs.LeftAside.{found_there, turn_same}
 use Rattle.heldmoves.proofs.BesideHeld.{goes_low, held_deed}
 use Rattle.heldmoves.proofs.OfOthers.{held_steps_are_moves, held_steps_have_swaps}
-use Rattle.heldways.specs.HeldWays.{StepKeepsOff, HasCertifiedWay, IsLikeLooselyReached, CertifiedKeepOff}
-use Rattle.heldways.proofs.OneEventEach.{reached_without, certificate_of}
+use Rattle.certificates.specs.Certified.{AreCertified}
+use Rattle.certificates.proofs.OneEvent.{HasOneEvent}
+use Rattle.heldways.specs.Passing.{Passing, AllPass}
+use Rattle.heldways.specs.HeldWays.{StepKeepsOff, HasConeOfAll}
+use Rattle.heldways.proofs.OneEventEach.{without_has_one, certificate_of}
+
+-- From a state in which no process sleeps the steps of all but held members lead to where none but members are active. These steps are
+-- certified, with footprints that leave aside what is held, and keep off what is held; and what they change passes.
+pub record HasCertifiedWay (class : ℕ → ℕ) (design : Design) (members : List ℕ) (block : ℕ → Block) (rank : ℕ → ℕ) (passes : Passing) (s : State) : Type 0 where
+  pub order : IsInOrder s
+  pub held : AreHeldMembers design s members block rank
+  pub steps : List (LooseTransition × Footprint)
+  pub last : OrderedState
+  pub runs : IsRunOfMoves (held_moves class design (contains members)) (s, order) steps last
+  pub certified : AreCertified class design steps
+  pub over : NobodyWaits class (without_held (contains members) last.0)
+  pub touched : List ℕ
+  pub cone : List ℕ
+  pub has_cone : HasConeOfAll s members block touched cone
+  pub keep : HoldsOf (StepKeepsOff members block cone touched) steps
+  pub steps_pass : HoldsOf (λ f. AllPass passes f.changes) steps
 
 -- who waits for any change of some registers, and is woken, is so by a change of one of them
 
@@ -96,7 +117,7 @@ fewer n p (e ∷ es) = either (not (e.0 == n)) (fewer n p es)
 lines_on : (e f y : Effect) (before own : List ℕ) → f.lines ≡ e.lines ++ before → y.lines ≡ own → f.lines ++ y.lines ≡ e.lines ++ (before ++ own)
 lines_on e f y before own h same = ap (λ ls. ls ++ y.lines) h ∙ append_assoc e.lines before y.lines ∙ ap (λ ls. e.lines ++ (before ++ ls)) same
 
-module _ (class : ℕ → ℕ) (design : Design) (members : List ℕ) (block : ℕ → Block) (rank : ℕ → ℕ) (s : State) (like : IsLikeLooselyReached class design s) (way : HasCertifiedWay class design members block rank s) where
+module _ (class : ℕ → ℕ) (design : Design) (members : List ℕ) (block : ℕ → Block) (rank : ℕ → ℕ) (passes : Passing) (s : State) (events : (p : ℕ) → HasOneEvent s p) (way : HasCertifiedWay class design members block rank passes s) where
   abbrev held : ℕ → Bool
   held = contains members
 
@@ -111,23 +132,24 @@ module _ (class : ℕ → ℕ) (design : Design) (members : List ℕ) (block : �
 
   -- what holds of each certified step
   abbrev Keeps : Footprint → Unit {0} → Type 0
-  Keeps f summary = StepKeepsOff members block way.cone way.touched f
+  Keeps f summary = StepKeepsOff members block way.cone way.touched f × AllPass passes f.changes
 
   abbrev found : FoundOfSet LooseTransition Footprint (Unit {0})
   found = record { ways = way.steps ∷ []; texts = []; summary = tt }
 
-  all_keep : (w : List (LooseTransition × Footprint)) → HoldsOf (StepKeepsOff members block way.cone way.touched) w → HoldsOf (λ f. Keeps f tt × ((b : LooseTransition) → GivesTo f b → all b ≡ true)) w
-  all_keep [] h = tt
-  all_keep (x ∷ w) h = ((h.0, λ b gives. refl), all_keep w h.1)
+  all_keep : (w : List (LooseTransition × Footprint)) → HoldsOf (StepKeepsOff members block way.cone way.touched) w → HoldsOf (λ f. AllPass passes f.changes) w
+      → HoldsOf (λ f. Keeps f tt × ((b : LooseTransition) → GivesTo f b → all b ≡ true)) w
+  all_keep [] h g = tt
+  all_keep (x ∷ w) h g = (((h.0, g.0), λ b gives. refl), all_keep w h.1 g.1)
 
   abbrev Stands : Type 0
   Stands = StandsFor moves Keeps all begin found
 
   stands : Stands
   stands =
-      let cert : IsCertificate (restricted moves all) begin way.steps way.last = certificate_of class design held way.steps begin way.last (reached_without class design held s like) way.runs way.certified in
+      let cert : IsCertificate (restricted moves all) begin way.steps way.last = certificate_of class design held way.steps begin way.last (λ p. without_has_one held s p (events p)) way.runs way.certified in
       certificate_stands_for moves Keeps all begin way.last way.steps found (held_steps_are_moves class design held) (held_steps_have_swaps class design held) cert
-      (λ a own waits. way.over a waits) (all_keep way.steps way.keep) (0, omega arith, refl)
+      (λ a own waits. way.over a waits) (all_keep way.steps way.keep way.steps_pass) (0, omega arith, refl)
 
   all_among : (w : List (LooseTransition × Footprint)) → AreAmong (λ a. all a ≡ true) w
   all_among [] = tt
@@ -162,12 +184,12 @@ module _ (class : ℕ → ℕ) (design : Design) (members : List ℕ) (block : �
 
   keeps_held : (u : State) (p : ℕ) (turn : turns.Turn) (g : Footprint) → ArePending u → g ≡ turn_footprint class (without_held held u) p turn → Keeps g tt → KeepsOffHeld u members block turn
   keeps_held u p turn g pending same keeps =
-      let own : Keeps (turn_footprint class (without_held held u) p turn) tt = subst (λ (z : Footprint). Keeps z tt) same keeps in
+      let both : Keeps (turn_footprint class (without_held held u) p turn) tt = subst (λ (z : Footprint). Keeps z tt) same keeps in
       record {
-        uses = λ r used out. (way.cone, has_cone u pending, own.uses r used out);
-        writes = λ r wrote out. own.writes r wrote out;
-        waits = λ r out. own.waits r out;
-        goes_on = own.goes_on;
+        uses = λ r used out. (way.cone, has_cone u pending, both.0.uses r used out);
+        writes = λ r wrote out. both.0.writes r wrote out;
+        waits = λ r out. both.0.waits r out;
+        goes_on = both.0.goes_on;
       }
 
   abbrev IsAlone : List (LooseTransition × Footprint) → OrderedState → Type 0
@@ -244,7 +266,7 @@ module _ (class : ℕ → ℕ) (design : Design) (members : List ℕ) (block : �
       either (inr there) = there
 
   -- where a way has come to: its steps, those held, and what is pending of them
-  abbrev Stood : Effect → Effect → Type 0
+  abbrev pub Stood : Effect → Effect → Type 0
   Stood e f =
       (w : List (LooseTransition × Footprint)) × (t : OrderedState) × IsRunOfMoves moves begin w t × NoneEnds moves.Ends w × (t.0 ≡ f.state) × AreHeldMembers design t.0 members block rank × ArePending t.0
       × (f.lines ≡ e.lines ++ printed_by_steps moves.prints w)
@@ -260,14 +282,14 @@ module _ (class : ℕ → ℕ) (design : Design) (members : List ℕ) (block : �
   print_more [] a g = append-none g.lines
   print_more (x ∷ w) a g = ap (λ ls. x.1.lines ++ ls) (print_more w a g) ∙ sym (append_assoc x.1.lines (printed_by_steps moves.prints w) g.lines)
 
-  stood_first : (e : Effect) → e.state ≡ s → Stood e e
+  pub stood_first : (e : Effect) → e.state ≡ s → Stood e e
   stood_first e same =
       ([], begin, refl, tt, sym same, way.held, λ p r member active out. way.has_cone.pending.begins p r member active out, sym (append-none e.lines))
 
   not_both : (b : Bool) → b ≡ false → b ≡ true → ⊥
   not_both b is h = true≢false (sym h ∙ is)
 
-  stood_on : (e f y : Effect) (entry : Entry) → Stood e f → TakesOther f.state members entry → loose_step class design f.state entry ≡ Some y → Stood e (joined f y)
+  pub stood_on : (e f y : Effect) (entry : Entry) → Stood e f → TakesOther f.state members entry → loose_step class design f.state entry ≡ Some y → Stood e (joined f y)
   stood_on e f y entry (w, t, run, none, same, is, pending, lines) other step =
       let alone : IsAlone w t = alone_of w t run none in
       let keep : OthersKeepOff design t.0 members block = keep_off w t alone pending in
@@ -279,16 +301,60 @@ module _ (class : ℕ → ℕ) (design : Design) (members : List ℕ) (block : �
       let keeps : Keeps g tt = stands.within w t next g.owner g alone refl move in
       let run' : IsRunOfMoves moves begin (w ++ (g.owner, g) ∷ []) next = runs_both OrderedState LooseTransition Footprint moves begin t next w ((g.owner, g) ∷ []) run (next, move, refl) in
       let (d, done, changes, printed_is) = held_deed class design held t.0 entry y g t.1 step' print in
-      let touched : (q : ℕ) → contains (changed_registers (changes_by t.0 d)) q ≡ true → contains way.touched q ≡ true = λ q change. keeps.changes q (ap (λ cs. contains (changed_registers cs) q) changes ∙ change) in (
+      let touched : (q : ℕ) → contains (changed_registers (changes_by t.0 d)) q ≡ true → contains way.touched q ≡ true = λ q change. keeps.0.changes q (ap (λ cs. contains (changed_registers cs) q) changes ∙ change) in (
         w ++ (g.owner, g) ∷ [],
         next,
         run',
-        none_more w g.owner g none (not_both g.finishes keeps.goes_on),
+        none_more w g.owner g none (not_both g.finishes keeps.0.goes_on),
         refl,
         held_stays_held class design members block rank t.0 entry y t.1 is keep (takes_event t.0 entry other') step',
         pending_after t.0 d y is pending done touched,
         lines_on e f y (printed_by_steps moves.prints w) g.lines lines printed_is ∙ ap (λ ls. e.lines ++ ls) (sym (print_more w g.owner g)),
       )
+
+  -- what is known there: the others keep off, what is pending has its outputs in the cone, and what the next of their steps changes passes
+
+  pub stood_keeps : (e f : Effect) → Stood e f → OthersKeepOff design f.state members block
+  stood_keeps e f (w, t, run, none, state, still, pending, lines) =
+      subst (λ z. OthersKeepOff design z members block) state (keep_off w t (alone_of w t run none) pending)
+
+  pub stood_cone : (e f : Effect) → Stood e f → HasCone f.state members block way.cone
+  stood_cone e f (w, t, run, none, state, still, pending, lines) =
+      subst (λ z. HasCone z members block way.cone) state (has_cone t.0 pending)
+
+  step_passes : (w : List (LooseTransition × Footprint)) (t : OrderedState) → IsAlone w t → (entry : Entry) (y : Effect) (g : Footprint) → loose_step class design t.0 entry ≡ Some y
+      → footprint class design (without_held held t.0) entry ≡ Some g → AllPass passes g.changes
+  step_passes w t alone entry y g step print =
+      let next : OrderedState = (y.state, loose_step_keeps_order class design t.0 entry y t.1 step) in
+      let move : IsHeldMove class design held t.0 g.owner g next.0 = (entry, y, step, print, refl, refl) in
+      let keeps : Keeps g tt = stands.within w t next g.owner g alone refl move in
+      keeps.1
+
+  pub turn_passes : (e f : Effect) (m p : ℕ) (turn : turns.Turn) → Stood e f → action_in f.state.active m ≡ Some (Evaluate p) → contains members p ≡ false → turn_of design f.state p ≡ Some turn
+      → AllPass passes (changes_made f.state.store turn.writes)
+  turn_passes e f m p turn (w, t, run, none, state, still, pending, lines) at other found =
+      let at' : action_in t.0.active m ≡ Some (Evaluate p) = ap (λ (z : State). action_in z.active m) state ∙ at in
+      let found' : turn_of design t.0 p ≡ Some turn = ap (λ (z : State). turn_of design z p) state ∙ found in
+      let step : loose_step class design t.0 (Entry.Turn m) ≡ Some (turn_effect t.0 m p turn) = turn_step design t.0 m p turn still.goes_on at' found' in
+      let print : footprint class design (without_held held t.0) (Entry.Turn m) ≡ Some (turn_footprint class (without_held held t.0) p turn) =
+      ap (action_footprint class design (without_held held t.0)) (found_there held m (Evaluate p) t.0.active at' other)
+      ∙ ap (option_map (turn_footprint class (without_held held t.0) p)) (turn_same design held t.0 p ∙ found') in
+      let passed : AllPass passes (changes_made t.0.store turn.writes) =
+      step_passes w t (alone_of w t run none) (Entry.Turn m) (turn_effect t.0 m p turn) (turn_footprint class (without_held held t.0) p turn) step print in
+      subst (λ (z : State). AllPass passes (changes_made z.store turn.writes)) state passed
+
+  pub update_passes : (e f : Effect) (m r : ℕ) (v : Vector) → Stood e f → action_in f.state.active m ≡ Some (Action.Update r v) → has_earlier_of_class class (class r) f.state.active m ≡ false
+      → AllPass passes (changes_made f.state.store ((r, v) ∷ []))
+  update_passes e f m r v (w, t, run, none, state, still, pending, lines) at first =
+      let at' : action_in t.0.active m ≡ Some (Action.Update r v) = ap (λ (z : State). action_in z.active m) state ∙ at in
+      let first' : has_earlier_of_class class (class r) t.0.active m ≡ false = ap (λ (z : State). has_earlier_of_class class (class r) z.active m) state ∙ first in
+      let step : loose_step class design t.0 (Update m) ≡ Some (update_effect t.0 m r v) =
+      to_loose class design t.0 (Update m) (update_effect t.0 m r v) (still.goes_on, (r, v, at', first', refl)) in
+      let print : footprint class design (without_held held t.0) (Update m) ≡ Some (update_footprint class (without_held held t.0) r v) =
+      ap (action_footprint class design (without_held held t.0)) (found_there held m (Action.Update r v) t.0.active at' refl) in
+      let passed : AllPass passes (changes_made t.0.store ((r, v) ∷ [])) =
+      step_passes w t (alone_of w t run none) (Update m) (update_effect t.0 m r v) (update_footprint class (without_held held t.0) r v) step print in
+      subst (λ (z : State). AllPass passes (changes_made z.store ((r, v) ∷ []))) state passed
 
   -- a way
 
@@ -331,6 +397,3 @@ module _ (class : ℕ → ℕ) (design : Design) (members : List ℕ) (block : �
         subst (λ z. AlikeIn class (without_held held z) (without_held held way.last.0)) state (states_in-trans class (without_held held t.0) (without_held held u.0) (without_held held way.last.0) near near'),
         lines ∙ ap (λ ls. e.lines ++ ls) (sym prints ∙ ap (printed_by_steps moves.prints) one),
       )
-
-pub certified_keep_off : CertifiedKeepOff
-certified_keep_off class design members block rank e like way entries f is = keep_off_at class design members block rank e.state like way e f entries refl is

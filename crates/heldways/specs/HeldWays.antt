@@ -1,5 +1,5 @@
 -- Ways of all but held combinational processes whose steps certify each other, and what they say of all runs from where they begin.
-use Rattle.std.specs.Prelude.{◌≡◌, ◌≢◌, ℕ, true, false, ◌==◌, List, [], ◌∷◌}
+use Rattle.std.specs.Prelude.{◌≡◌, ◌≢◌, ℕ, true, false, ◌==◌, List, [], ◌∷◌, ◌++◌}
 use Rattle.std.specs.List.{list_any}
 use Rattle.model.specs.declared.end.End.{End}
 use Rattle.model.specs.declared.end.Limits.{Limits}
@@ -27,6 +27,7 @@ use Rattle.looseruns.specs.LooseCover.{CoverMoves}
 use Rattle.looseruns.specs.LooseGoing.{GoesLooselyTo}
 use Rattle.heldmoves.specs.WithoutHeld.{without_held}
 use Rattle.heldmoves.specs.HeldMoves.{held_moves}
+use Rattle.heldways.specs.Passing.{Passing, IsPassing, AllPass, OutputsPass, SleepThrough, put_to_sleep}
 
 -- A step keeps off what is held: it uses no output in a cone, writes no output, doesn't go on to wait for one, and doesn't finish. What it
 -- changes is among some registers.
@@ -44,20 +45,27 @@ pub record HasConeOfAll (s : State) (members : List ℕ) (block : ℕ → Block)
       (p q r : ℕ) → contains members p ≡ true → contains (block p).inputs q ≡ true → contains touched q ≡ true
       → contains (block p).outputs r ≡ true → contains cone r ≡ true
 
--- From a state the steps of all but held members lead to where none but members are active. These steps are certified, with footprints that
--- leave aside what is held, and keep off what is held.
-pub record HasCertifiedWay (class : ℕ → ℕ) (design : Design) (members : List ℕ) (block : ℕ → Block) (rank : ℕ → ℕ) (s : State) : Type 0 where
+-- From a state the steps of all but held members and some sleepers lead to where nobody else is active. These steps are certified, with
+-- footprints that leave aside what is held and the sleepers, and keep off what is held. The members are held where the sleepers wait for
+-- nothing. These sleep through it: whatever the steps change passes, and the outputs pass through what they may be given meanwhile.
+pub record HasHeldWay (class : ℕ → ℕ) (design : Design) (members : List ℕ) (block : ℕ → Block) (rank : ℕ → ℕ) (s : State) : Type 0 where
   pub order : IsInOrder s
-  pub held : AreHeldMembers design s members block rank
+  pub sleepers : List ℕ
+  pub held : AreHeldMembers design (put_to_sleep sleepers s) members block rank
   pub steps : List (LooseTransition × Footprint)
   pub last : OrderedState
-  pub runs : IsRunOfMoves (held_moves class design (contains members)) (s, order) steps last
+  pub runs : IsRunOfMoves (held_moves class design (contains (members ++ sleepers))) (s, order) steps last
   pub certified : AreCertified class design steps
-  pub over : NobodyWaits class (without_held (contains members) last.0)
+  pub over : NobodyWaits class (without_held (contains (members ++ sleepers)) last.0)
   pub touched : List ℕ
   pub cone : List ℕ
   pub has_cone : HasConeOfAll s members block touched cone
   pub keep : HoldsOf (StepKeepsOff members block cone touched) steps
+  pub passes : Passing
+  pub is_passing : IsPassing passes
+  pub steps_pass : HoldsOf (λ f. AllPass passes f.changes) steps
+  pub outputs_pass : OutputsPass design s.store s.time members block cone passes
+  pub sleep : SleepThrough s members sleepers passes
 
 -- a state is like what a loose run comes to from the start
 pub record IsLikeLooselyReached (class : ℕ → ℕ) (design : Design) (s : State) : Type 0 where
@@ -65,19 +73,19 @@ pub record IsLikeLooselyReached (class : ℕ → ℕ) (design : Design) (s : Sta
   pub reached : IsReachedLoosely class design comes_to
   pub alike : AlikeIn class comes_to s
 
--- wherever a way leads from such a state, the others keep off what is held
+-- wherever a way leads from such a state where the sleepers wait for nothing, the others keep off what is held
 abbrev pub CertifiedKeepOff : Type 0
 CertifiedKeepOff =
     (class : ℕ → ℕ) (design : Design) (members : List ℕ) (block : ℕ → Block) (rank : ℕ → ℕ) (e : Effect)
-    → IsLikeLooselyReached class design e.state → HasCertifiedWay class design members block rank e.state
-    → KeepOffOnWays class design members block e
+    → IsLikeLooselyReached class design e.state → (way : HasHeldWay class design members block rank e.state)
+    → KeepOffOnWays class design members block (record e { state = put_to_sleep way.sleepers e.state })
 
 -- Whichever events come first, up to where none is active, there is one loose node, where the members settle between the begin and one of
 -- the ends.
 abbrev pub HeldEndsInOneNode : Type 0
 HeldEndsInOneNode =
     (class : ℕ → ℕ) (design : Design) (members : List ℕ) (block : ℕ → Block) (rank : ℕ → ℕ) (e f g : Effect) (entries others : List Entry)
-    → IsLikeLooselyReached class design e.state → HasCertifiedWay class design members block rank e.state
+    → IsLikeLooselyReached class design e.state → HasHeldWay class design members block rank e.state
     → EndsPhaseLoosely class design e entries f → EndsPhaseLoosely class design e others g
     → SettleBetween design members block e.state g.state → IsOneLooseNode class f g
 
@@ -93,7 +101,7 @@ TransitionsTakeEvents (Change entry ∷ more) = ⊥
 abbrev pub HeldWayCovers : Type 0
 HeldWayCovers =
     (class : ℕ → ℕ) (design : Design) (limits : Limits) (members : List ℕ) (block : ℕ → Block) (rank : ℕ → ℕ) (s : State) (g : Effect)
-    (way : List LooseTransition) → IsLikeLooselyReached class design s → HasCertifiedWay class design members block rank s → way ≢ []
+    (way : List LooseTransition) → IsLikeLooselyReached class design s → HasHeldWay class design members block rank s → way ≢ []
     → TransitionsTakeEvents way → GoesLooselyTo class design limits s way g → g.state.active ≡ []
     → SettleBetween design members block s g.state
     → CoverMoves class design limits s (way ∷ []) × ((end : End) → EndsHere design limits (silent s) end → ⊥)

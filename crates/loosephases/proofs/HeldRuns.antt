@@ -47,7 +47,7 @@ use Rattle.loosephases.proofs.HeldTurns.{Answered, made_keeps, length_set_contin
 use Rattle.loosephases.proofs.HeldMembers.{turn_leaves, MemberTurn, after_member, member_together}
 
 -- a state is beside itself
-together_same : (class : ℕ → ℕ) (design : Design) (members : List ℕ) (block : ℕ → Block) (rank : ℕ → ℕ) (s : State) → AreHeldMembers design s members block rank → Together class design s members block s s
+pub together_same : (class : ℕ → ℕ) (design : Design) (members : List ℕ) (block : ℕ → Block) (rank : ℕ → ℕ) (s : State) → AreHeldMembers design s members block rank → Together class design s members block s s
 together_same class design members block rank s held =
     record {
       beside = record {
@@ -82,11 +82,11 @@ held_after class design start members block rank s f u held going count fewer h 
     }
 
 -- what an entry comes to: a member's turn leaves the other state, and anything else it does too
-abbrev Moves : (ℕ → ℕ) → Design → State → List ℕ → (ℕ → Block) → State → Effect → Type 0
+abbrev pub Moves : (ℕ → ℕ) → Design → State → List ℕ → (ℕ → Block) → State → Effect → Type 0
 Moves class design start members block u f =
     ((f.lines ≡ []) × Together class design start members block f.state u) ⊎ Answered class design start members block u f
 
-abbrev Moved : (ℕ → ℕ) → Design → State → List ℕ → (ℕ → Block) → (ℕ → ℕ) → State → Effect → Type 0
+abbrev pub Moved : (ℕ → ℕ) → Design → State → List ℕ → (ℕ → Block) → (ℕ → ℕ) → State → Effect → Type 0
 Moved class design start members block rank u f = AreHeldMembers design f.state members block rank × Moves class design start members block u f
 
 same_updated : (s f : State) → updates_in f.active ≡ updates_in s.active → (r : ℕ) → contains (updated_in f) r ≡ true → contains (updated_in s) r ≡ true
@@ -152,7 +152,7 @@ update_moves class design start members block rank s u n r v i j held h at earli
     no_output : (p : ℕ) → contains (block p).outputs r ≡ false → contains (block p).outputs r ≡ true → ⊥
     no_output p none is = cc
 
-entry_moves : (class : ℕ → ℕ) (design : Design) (start : State) (members : List ℕ) (block : ℕ → Block) (rank : ℕ → ℕ) (s u : State) (entry : Entry) (f : Effect) → IsInOrder s → IsInOrder u
+pub entry_moves : (class : ℕ → ℕ) (design : Design) (start : State) (members : List ℕ) (block : ℕ → Block) (rank : ℕ → ℕ) (s u : State) (entry : Entry) (f : Effect) → IsInOrder s → IsInOrder u
     → AreHeldMembers design s members block rank → OthersKeepOff design u members block → Together class design start members block s u → TakesEvent entry → loose_step class design s entry ≡ Some f
     → Moved class design start members block rank u f
 entry_moves class design start members block rank s u (Entry.Turn n) f i j held keep h takes is =
@@ -344,7 +344,7 @@ held_is_put_off class design members block rank e f entries order held keep (tak
 
 -- a run to an end comes to where none is active
 
-no_long_turn : (class : ℕ → ℕ) (design : Design) (start : State) (members : List ℕ) (block : ℕ → Block) (rank : ℕ → ℕ) (t u : State) (p : ℕ) (is : Bool) → contains members p ≡ is → IsInOrder t → AreHeldMembers design t members block rank
+pub no_long_turn : (class : ℕ → ℕ) (design : Design) (start : State) (members : List ℕ) (block : ℕ → Block) (rank : ℕ → ℕ) (t u : State) (p : ℕ) (is : Bool) → contains members p ≡ is → IsInOrder t → AreHeldMembers design t members block rank
     → OthersKeepOff design u members block → Together class design start members block t u → HasLongTurn design t p → ⊥
 no_long_turn class design start members block rank t u p true is i held keep h (n, at, long) =
     let pending : IsTurnPending t p (block p) = pending_at t p (block p) (active_at t n p i at) (held.stands p is) in
@@ -357,12 +357,12 @@ no_long_turn class design start members block rank t u p false is i held keep h 
     let found : turn_of design t p ≡ Some turn = same_turn class design members block t u p turn h.beside is keeps at_u in
     cc
 
-abbrev Passes : (ℕ → ℕ) → Design → Effect → List Entry → Effect → Type 0
+abbrev pub Passes : (ℕ → ℕ) → Design → Effect → List Entry → Effect → Type 0
 Passes class design e entries g =
     (before : List Entry) × (after : List Entry) × (f : Effect) × (before ++ after ≡ entries) × EndsPhaseLoosely class design e before f
     × (loose_run_from class design f after ≡ Some g)
 
-passes_more : (class : ℕ → ℕ) (design : Design) (e y g : Effect) (entry : Entry) (entries : List Entry) → TakesEvent entry → loose_step class design e.state entry ≡ Some y → Passes class design (joined e y) entries g
+pub passes_more : (class : ℕ → ℕ) (design : Design) (e y g : Effect) (entry : Entry) (entries : List Entry) → TakesEvent entry → loose_step class design e.state entry ≡ Some y → Passes class design (joined e y) entries g
     → Passes class design e (entry ∷ entries) g
 passes_more class design e y g entry entries takes at_y (before, after, f, split, (all, goes, over), rest) = (
   entry ∷ before,

@@ -1,26 +1,28 @@
 -- Steps that a machine took while processes are held are moves of which the notes tell, and the way behind which these are taken stands for
 -- all.
-use Rattle.std.proofs.Common.{◌≡◌, ◌≢◌, ◌⊎◌, ℕ, Bool, true, List, [], ◌∷◌, ◌++◌, Option, Some, None, refl, sym, ap, subst, ◌∙◌, true≢false, inl, inr}
+use Rattle.std.proofs.Common.{◌≡◌, ◌≢◌, ◌⊎◌, ℕ, Bool, true, false, ◌==◌, List, [], ◌∷◌, ◌++◌, Option, Some, None, refl, sym, ap, subst, ◌∙◌, true≢false, inl, inr, arith}
 use Rattle.std.specs.Prelude.{option_map, slice_get}
-use Rattle.std.specs.List.{All}
+use Rattle.std.specs.List.{All, list_any}
 use Rattle.std.proofs.lemmas.List.Elements.{All-head, All-tail}
 use Rattle.model.specs.declared.entry.Entry.{Entry}
 use Rattle.model.specs.declared.entry.Entry.TheVariants.{Turn, Update, ActivateInactive, ActivateNba, ActivateMonitor, Advance}
 use Rattle.model.specs.declared.end.Limits.{Limits}
-use Rattle.model.specs.Design.{Design}
+use Rattle.model.specs.Design.{Design, Trigger}
+use Rattle.model.specs.Expressions.{Store}
 use Rattle.model.specs.Turns.{contains}
 use Rattle.model.specs.Turns as turns
-use Rattle.model.specs.States.{Action, Evaluate, State}
+use Rattle.model.specs.States.{Action, Evaluate, Continuation, State}
 use Rattle.model.specs.Runs.{action_in, turn_of}
 use Rattle.orders.specs.Alike.{IsInOrder}
-use Rattle.phases.specs.Phase.{IsActive}
+use Rattle.orders.proofs.AlikeSteps.{continuation_of}
 use Rattle.design.specs.Compiled.{Compiled, design_of}
 use Rattle.regions.specs.Machine.{MachineView, state_at}
-use Rattle.phases.specs.Phase.{Block, SettleBetween, IsOutput}
-use Rattle.combinational.specs.declared.block.Logic.{Logic}
+use Rattle.phases.specs.Phase.{IsActive, Block, IsTurnPending, IsBlockWaiting, SettleBetween, IsOutput}
 use Rattle.combinational.specs.declared.network.Network.{Network}
 use Rattle.combinational.specs.Found.{rank_in}
-use Rattle.settling.specs.Settling.{block_or, block_at, ArePendingOrSettled, MayBeHeld}
+use Rattle.settling.specs.declared.sleepers.Sleeper.{Sleeper}
+use Rattle.settling.specs.Settling.{block_or, block_at, ArePendingOrSettled, MayBeHeld, AreSleepers, sleeping}
+use Rattle.settling.proofs.Sleeping.{with_logic, of_sleeping}
 use Rattle.settling.proofs.Phases.{settled_so}
 use Rattle.loose.specs.declared.transition.LooseTransition.{LooseTransition}
 use Rattle.loose.specs.declared.transition.LooseTransition.TheVariants.{Process, FirstOf, Change}
@@ -34,12 +36,14 @@ use Rattle.footprints.specs.Moves.{OrderedState}
 use Rattle.footprints.proofs.Steps.{some_same}
 use Rattle.certificates.specs.Notes.{NoteView, TellsOf}
 use Rattle.certificates.specs.CertificateLaws.{IsReachedLoosely}
-use Rattle.heldmoves.specs.WithoutHeld.{without_held}
+use Rattle.heldmoves.specs.WithoutHeld.{asleep_if, without_held}
 use Rattle.heldmoves.specs.HeldMoves.{IsHeldMove, held_moves}
-use Rattle.heldmoves.proofs.LeftAside.{was_there}
-use Rattle.heldways.specs.HeldWays.{StepKeepsOff, HasConeOfAll, HasCertifiedWay, IsLikeLooselyReached, TransitionsTakeEvents}
+use Rattle.heldmoves.proofs.LeftAside.{was_there, asleep_at, length_asleep}
+use Rattle.heldways.specs.Passing.{Passing, AllPass, AreDeaf, put_to_sleep}
+use Rattle.heldways.specs.HeldWays.{StepKeepsOff, HasConeOfAll, HasHeldWay, IsLikeLooselyReached, TransitionsTakeEvents}
 use Rattle.heldways.proofs.HeldCovering.{held_way_covers}
 use Rattle.noted.specs.NotedSteps.{IsEntryNoted, note_of}
+use Rattle.passing.specs.SleepThroughNotes.{SleepThroughNotes}
 use Rattle.loosewalks.specs.declared.active.NamedEntry.{NamedEntry}
 use Rattle.loosewalks.specs.EventWays.{AreOfActors}
 use Rattle.loosewalks.specs.LooseWalking.{IsEventStep, IsSoleLooseWay, TakenLoosely}
@@ -137,13 +141,30 @@ others_more class limits held old mid new notes more way longer named so_far cod
           (λ order'. noted_move class held mid new named notes more way longer added order' event.transition_is);
     })
 
--- what a network says of a block
+-- a process that sleeps waits for nothing, and another for what it waits for
 
-with_logic : (code : Compiled) (network : Network) (p r : ℕ) (o : Option (Option Logic)) → slice_get network.logics.items p ≡ o → contains (block_or code o).outputs r ≡ true
-    → (logic : Logic) × (slice_get network.logics.items p ≡ Some (Some logic)) × (contains logic.outputs.items r ≡ true)
-with_logic code network p r None is out = cc
-with_logic code network p r (Some None) is out = cc
-with_logic code network p r (Some (Some logic)) is out = (logic, is, out)
+asleep_quiet : (b : Bool) (x : Continuation) (r : ℕ) → (b ≡ false → list_any (λ (t : Trigger). t.1 == r) x.triggers ≡ false) → list_any (λ (t : Trigger). t.1 == r) (asleep_if b x).triggers ≡ false
+asleep_quiet true x r h = refl
+asleep_quiet false x r h = h refl
+
+no_sleeper_if : (held sleepers : List ℕ) (p : ℕ) (sleeps : Bool) → contains sleepers p ≡ sleeps → ((q : ℕ) → contains sleepers q ≡ true → contains held q ≡ false) → contains held p ≡ true → contains sleepers p ≡ false
+no_sleeper_if held sleepers p true is outside member = absurd (true≢false (sym member ∙ outside p is))
+no_sleeper_if held sleepers p false is outside member = is
+
+abbrev NotePasses : Passing → NoteView → Type 0
+NotePasses passes note = AllPass passes note.changes
+
+abbrev DeafAt : State → Passing → ℕ → Type 0
+DeafAt s passes q = AreDeaf passes (continuation_of s.processes q).triggers
+
+-- who sleeps by what was kept of a start sleeps from there
+pub asleep_from_there : (code own : Compiled) (network : Network) (held cone : List ℕ) (values store : Store) (time now : ℕ) (notes others : List NoteView) (sleepers : List Sleeper) → code ≡ own → values ≡ store → time ≡ now → notes ≡ others
+    → SleepThroughNotes code network held cone values time notes sleepers → SleepThroughNotes own network held cone store now others sleepers
+asleep_from_there code own network held cone values store time now notes others sleepers codes stores times same sleep =
+    subst (λ (k : Compiled). SleepThroughNotes k network held cone store now others sleepers) codes
+    (subst (λ (a : Store). SleepThroughNotes code network held cone a now others sleepers) stores
+    (subst (λ (n : ℕ). SleepThroughNotes code network held cone values n others sleepers) times
+    (subst (λ (ns : List NoteView). SleepThroughNotes code network held cone values time ns sleepers) same sleep)))
 
 module _ (old new : MachineView) (network : Network) (held : List ℕ) where
   abbrev s : State
@@ -152,17 +173,30 @@ module _ (old new : MachineView) (network : Network) (held : List ℕ) where
   abbrev blocks : ℕ → Block
   blocks = block_at old.code network
 
-  is_held : MayBeHeld old.code s network held → AreHeldMembers (design_of old.code) s held blocks (rank_in network.ranks.items)
-  is_held may =
+  -- a member goes on where the sleepers wait for nothing as it did
+  member_awake : (sleepers : List ℕ) (p : ℕ) → ((q : ℕ) → contains sleepers q ≡ true → contains held q ≡ false) → contains held p ≡ true → continuation_of (put_to_sleep sleepers s).processes p ≡ continuation_of s.processes p
+  member_awake sleepers p outside member =
+      asleep_at (contains sleepers) p s.processes ∙ ap (λ b. asleep_if b (continuation_of s.processes p)) (no_sleeper_if held sleepers p (contains sleepers p) refl outside member)
+
+  stands_asleep : (sleepers : List ℕ) (p : ℕ) → continuation_of (put_to_sleep sleepers s).processes p ≡ continuation_of s.processes p → IsTurnPending s p (blocks p) ⊎ IsBlockWaiting s p (blocks p)
+      → IsTurnPending (put_to_sleep sleepers s) p (blocks p) ⊎ IsBlockWaiting (put_to_sleep sleepers s) p (blocks p)
+  stands_asleep sleepers p same (inl (one, continuation)) = inl (one, same ∙ continuation)
+  stands_asleep sleepers p same (inr (none, continuation)) = inr (none, same ∙ continuation)
+
+  is_held : (sleepers : List Sleeper) → MayBeHeld old.code s network held → AreSleepers old.code s network held sleepers
+      → AreHeldMembers (design_of old.code) (put_to_sleep (sleeping sleepers) s) held blocks (rank_in network.ranks.items)
+  is_held sleepers may are =
       record {
         goes_on = may.goes_on;
-        exist = may.exist;
+        exist = λ p member. omega (arith, may.exist p member, length_asleep (contains (sleeping sleepers)) 0 s.processes);
         blocks = may.blocks;
-        stands = may.stands;
+        stands = λ p member. stands_asleep (sleeping sleepers) p (member_awake (sleeping sleepers) p are.outside member) (may.stands p member);
         single = may.single;
         updates = may.updates;
         order = may.order;
-        others = may.others;
+        others = λ q r none out.
+            ap (λ (x : Continuation). list_any (λ (t : Trigger). t.1 == r) x.triggers) (asleep_at (contains (sleeping sleepers)) q s.processes)
+            ∙ asleep_quiet (contains (sleeping sleepers) q) (continuation_of s.processes q) r (λ awake. are.others q r none awake out);
       }
 
   cone_on : (touched cone pending : List ℕ) (p q r : ℕ) → HasConeAt network pending touched cone p → contains (blocks p).inputs q ≡ true → (contains touched q ≡ true) ⊎ (contains cone q ≡ true) → contains (blocks p).outputs r ≡ true → contains cone r ≡ true
@@ -175,58 +209,80 @@ module _ (old new : MachineView) (network : Network) (held : List ℕ) where
       let (logic, found, own) = with_logic old.code network p r (slice_get network.logics.items p) refl out in
       at.begins r logic found active own
 
-  has_cone : (notes : List NoteView) (pending : List ℕ) → ((p : ℕ) → IsActive s p → contains pending p ≡ true) → (off : KeptOff network held pending notes) → HasConeOfAll s held blocks off.touched off.cone
-  has_cone notes pending active off =
+  has_cone : (notes : List NoteView) (pending : List ℕ) → ((p : ℕ) → IsActive s p → contains pending p ≡ true) → (touched cone : List ℕ) (off : KeptOff network held pending touched cone notes) → HasConeOfAll s held blocks touched cone
+  has_cone notes pending active touched cone off =
       record {
         pending = record {
-          begins = λ p r member is out. cone_first off.touched off.cone pending p r (off.has_cone p member) (active p is) out;
-          goes_on = λ p q r member input there out. cone_on off.touched off.cone pending p q r (off.has_cone p member) input (inr there) out;
+          begins = λ p r member is out. cone_first touched cone pending p r (off.has_cone p member) (active p is) out;
+          goes_on = λ p q r member input there out. cone_on touched cone pending p q r (off.has_cone p member) input (inr there) out;
         };
-        woken = λ p q r member input there out. cone_on off.touched off.cone pending p q r (off.has_cone p member) input (inl there) out;
+        woken = λ p q r member input there out. cone_on touched cone pending p q r (off.has_cone p member) input (inl there) out;
       }
 
-  is_listed : (notes : List NoteView) (pending : List ℕ) (off : KeptOff network held pending notes) (r : ℕ) → IsOutput held blocks r → contains off.outputs r ≡ true
-  is_listed notes pending off r (p, member, out) =
+  is_listed : (notes : List NoteView) (pending touched cone : List ℕ) (off : KeptOff network held pending touched cone notes) (r : ℕ) → IsOutput held blocks r → contains off.outputs r ≡ true
+  is_listed notes pending touched cone off r (p, member, out) =
       let (logic, found, own) = with_logic old.code network p r (slice_get network.logics.items p) refl out in
       off.outputs_are p r logic member found own
 
-  step_keeps : (notes : List NoteView) (pending : List ℕ) (off : KeptOff network held pending notes) (note : NoteView) (f : Footprint) → note ≡ note_of f → NoteKeepsOff off.outputs off.cone off.touched note
-      → StepKeepsOff held blocks off.cone off.touched f
-  step_keeps notes pending off note f exact keeps =
-      let own : NoteKeepsOff off.outputs off.cone off.touched (note_of f) = subst (NoteKeepsOff off.outputs off.cone off.touched) exact keeps in
+  step_keeps : (notes : List NoteView) (pending touched cone : List ℕ) (off : KeptOff network held pending touched cone notes) (note : NoteView) (f : Footprint) → note ≡ note_of f → NoteKeepsOff off.outputs cone touched note
+      → StepKeepsOff held blocks cone touched f
+  step_keeps notes pending touched cone off note f exact keeps =
+      let own : NoteKeepsOff off.outputs cone touched (note_of f) = subst (NoteKeepsOff off.outputs cone touched) exact keeps in
       record {
         uses = λ r used out. own.uses r used;
-        writes = λ r wrote out. true≢false (sym (is_listed notes pending off r out) ∙ own.writes r wrote);
-        waits = λ r out. own.waits r (is_listed notes pending off r out);
+        writes = λ r wrote out. true≢false (sym (is_listed notes pending touched cone off r out) ∙ own.writes r wrote);
+        waits = λ r out. own.waits r (is_listed notes pending touched cone off r out);
         goes_on = own.goes_on;
         changes = own.changes;
       }
 
-  all_keep : (all : List NoteView) (pending : List ℕ) (off : KeptOff network held pending all) (notes : List NoteView) (w : List (LooseTransition × Footprint)) → AreNotesOf notes w → All (NoteKeepsOff off.outputs off.cone off.touched) notes
-      → HoldsOf (StepKeepsOff held blocks off.cone off.touched) w
-  all_keep all pending off [] [] exact keep = tt
-  all_keep all pending off [] (x ∷ w) exact keep = absurd exact
-  all_keep all pending off (note ∷ notes) [] exact keep = absurd exact
-  all_keep all pending off (note ∷ notes) (x ∷ w) (first, exact) keep =
-      let Keeps = NoteKeepsOff off.outputs off.cone off.touched in
-      (step_keeps all pending off note x.1 first (All-head Keeps note notes keep), all_keep all pending off notes w exact (All-tail Keeps note notes keep))
+  all_keep : (all : List NoteView) (pending touched cone : List ℕ) (off : KeptOff network held pending touched cone all) (notes : List NoteView) (w : List (LooseTransition × Footprint)) → AreNotesOf notes w → All (NoteKeepsOff off.outputs cone touched) notes
+      → HoldsOf (StepKeepsOff held blocks cone touched) w
+  all_keep all pending touched cone off [] [] exact keep = tt
+  all_keep all pending touched cone off [] (x ∷ w) exact keep = absurd exact
+  all_keep all pending touched cone off (note ∷ notes) [] exact keep = absurd exact
+  all_keep all pending touched cone off (note ∷ notes) (x ∷ w) (first, exact) keep =
+      let Keeps = NoteKeepsOff off.outputs cone touched in
+      (step_keeps all pending touched cone off note x.1 first (All-head Keeps note notes keep), all_keep all pending touched cone off notes w exact (All-tail Keeps note notes keep))
+
+  -- what notes say that passes passes in the steps
+  all_pass : (passes : Passing) (notes : List NoteView) (w : List (LooseTransition × Footprint)) → AreNotesOf notes w → All (λ n. AllPass passes n.changes) notes → HoldsOf (λ f. AllPass passes f.changes) w
+  all_pass passes [] [] exact pass = tt
+  all_pass passes [] (x ∷ w) exact pass = absurd exact
+  all_pass passes (note ∷ notes) [] exact pass = absurd exact
+  all_pass passes (note ∷ notes) (x ∷ w) (first, exact) pass =
+      let Pass = NotePasses passes in
+      (subst (λ (n : NoteView). AllPass passes n.changes) first (All-head Pass note notes pass), all_pass passes notes w exact (All-tail Pass note notes pass))
 
   module _ (class : ℕ → ℕ) (limits : Limits) (moves : List LooseTransition) (done : HasHeld class limits old network held moves new) where
-    certified_way : (order : IsInOrder s) → HasCertifiedWay class (design_of old.code) held blocks (rank_in network.ranks.items) s
+    certified_way : (order : IsInOrder s) → HasHeldWay class (design_of old.code) held blocks (rank_in network.ranks.items) s
     certified_way order =
-        let steps : AreOthersSteps class held old order done.notes done.mid = done.others.others.noted order in
+        let sleepers : List Sleeper = done.sleepers in
+        let steps : AreOthersSteps class (held ++ sleeping sleepers) old order done.notes done.mid = done.others.others.noted order in
         record {
           order = order;
-          held = is_held done.may;
+          sleepers = sleeping sleepers;
+          held = is_held sleepers done.may done.are_sleepers;
           steps = steps.steps;
           last = (state_at done.mid, steps.new_order);
           runs = steps.runs;
           certified = done.others.certify class (design_of old.code) steps.steps steps.tells;
           over = done.others.over;
-          touched = done.off.touched;
-          cone = done.off.cone;
-          has_cone = has_cone done.notes done.pending done.active done.off;
-          keep = all_keep done.notes done.pending done.off done.notes steps.steps steps.exact done.off.each;
+          touched = done.touched;
+          cone = done.cone;
+          has_cone = has_cone done.notes done.pending done.active done.touched done.cone done.off;
+          keep = all_keep done.notes done.pending done.touched done.cone done.off done.notes steps.steps steps.exact done.off.each;
+          passes = done.asleep.passes;
+          is_passing = done.asleep.is_passing;
+          steps_pass = all_pass done.asleep.passes done.notes steps.steps steps.exact done.asleep.notes_pass;
+          outputs_pass = done.asleep.outputs_pass done.may.blocks;
+          sleep = record {
+            outside = done.are_sleepers.outside;
+            idle = done.are_sleepers.idle;
+            deaf = λ q is.
+                of_sleeping (DeafAt s done.asleep.passes) sleepers q
+                (λ k d within. subst (λ (ts : List Trigger). AreDeaf done.asleep.passes ts) (sym (done.are_sleepers.wait k d within)) (done.asleep.deaf k d within)) is;
+          };
         }
 
     take_events : (way : List LooseTransition) → AreOfActors way → TransitionsTakeEvents way

@@ -12,7 +12,9 @@ use Rattle.combinational.specs.declared.network.Network.{Network}
 use Rattle.regions.specs.declared.queue.Evaluation.{Evaluation}
 use Rattle.regions.specs.Machine.{MachineView, state_at}
 use Rattle.regions.specs.StepLogs.{IsTaken}
-use Rattle.settling.specs.Settling.{block_at, MayBeHeld, HaveOutputs}
+use Rattle.settling.specs.declared.sleepers.Sleeper.{Sleeper}
+use Rattle.settling.specs.Settling.{block_at, MayBeHeld, AreSleepers, sleeping, HaveOutputs}
+use Rattle.settling.specs.Settled.{IsBeginOf}
 use Rattle.settling.specs.Waiting.{WaitsForNone}
 use Rattle.loose.specs.declared.transition.LooseTransition.{LooseTransition}
 use Rattle.traces.specs.Traces.{IsRunOfMoves}
@@ -23,7 +25,9 @@ use Rattle.certificates.specs.CertificateLaws.{NobodyWaits}
 use Rattle.heldmoves.specs.WithoutHeld.{without_held}
 use Rattle.heldmoves.specs.HeldMoves.{held_moves}
 use Rattle.noted.specs.NotedSteps.{IsEntryNoted, note_of}
+use Rattle.passing.specs.SleepThroughNotes.{SleepThroughNotes}
 use Rattle.loosewalks.specs.declared.active.NamedEntry.{NamedEntry}
+use Rattle.loosewalks.specs.declared.held.HeldStart.{HeldStart}
 use Rattle.loosewalks.specs.LooseWalking.{TakesMoves, HasPassedBy}
 
 -- an evaluation is one of these, and of a process that isn't held
@@ -54,10 +58,8 @@ pub record NoteKeepsOff (outputs cone touched : List ℕ) (note : NoteView) : Ty
   pub goes_on : note.finishes ≡ false
   pub changes : (r : ℕ) → contains (changed_registers note.changes) r ≡ true → contains touched r ≡ true
 
--- noted steps keep off what is held, of which these processes were pending
-pub record KeptOff (network : Network) (held pending : List ℕ) (notes : List NoteView) : Type 0 where
-  pub touched : List ℕ
-  pub cone : List ℕ
+-- noted steps keep off what is held, of which these processes were pending, with this cone
+pub record KeptOff (network : Network) (held pending touched cone : List ℕ) (notes : List NoteView) : Type 0 where
   pub outputs : List ℕ
   pub outputs_are : HaveOutputs network held outputs
   pub has_cone : (p : ℕ) → contains held p ≡ true → HasConeAt network pending touched cone p
@@ -103,17 +105,31 @@ TakesOn class old moves new more =
     (limits : Limits) (begun : MachineView) → old.code ≡ begun.code → TakesMoves class limits begun moves old
     → TakesMoves class limits begun more new
 
--- A machine took the events of these moves until none was active. The first of them were taken while processes were held; their notes
--- certify, and they kept off what is held.
+-- What is kept of where a machine stood with processes that are held: which were pending, which others sleep, both that are left aside, the
+-- time, and the values.
+pub record IsHeldStart (old : MachineView) (network : Network) (held : List ℕ) (start : HeldStart) : Type 0 where
+  pub active : (p : ℕ) → IsActive (state_at old) p → contains start.pending.items p ≡ true
+  pub sleepers : AreSleepers old.code (state_at old) network held start.sleepers.items
+  pub aside : start.aside.items ≡ held ++ sleeping start.sleepers.items
+  pub time : start.time ≡ (state_at old).time
+  pub begins : IsBeginOf old start.begin
+
+-- A machine took the events of these moves until none was active. The first of them were taken while processes were held, and others slept;
+-- their notes certify, they kept off what is held, and the sleepers sleep through that.
 pub record HasHeld (class : ℕ → ℕ) (limits : Limits) (old : MachineView) (network : Network) (held : List ℕ) (moves : List LooseTransition) (new : MachineView) : Type 0 where
   pub mid : MachineView
   pub notes : List NoteView
   pub first : List LooseTransition
   pub pending : List ℕ
   pub may : MayBeHeld old.code (state_at old) network held
-  pub others : HasTakenOthers class limits held old notes first mid
+  pub sleepers : List Sleeper
+  pub are_sleepers : AreSleepers old.code (state_at old) network held sleepers
+  pub others : HasTakenOthers class limits (held ++ sleeping sleepers) old notes first mid
   pub active : (p : ℕ) → IsActive (state_at old) p → contains pending p ≡ true
-  pub off : KeptOff network held pending notes
+  pub touched : List ℕ
+  pub cone : List ℕ
+  pub off : KeptOff network held pending touched cone notes
+  pub asleep : SleepThroughNotes old.code network held cone (state_at old).store (state_at old).time notes sleepers
   pub passed : HasPassedBy class limits old moves new
 
 -- a machine did so, and what is held settles from where it stood to where it stands, if it is the same time

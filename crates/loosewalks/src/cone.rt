@@ -11,7 +11,7 @@ use certificates::note::StepNote;
 use certificates::triggers::Triggers;
 use combinational::{Network, is_among, share};
 use design::RegId;
-use settling::{inputs_at, outputs_at, outputs_of};
+use settling::{inputs_at, is_any_outside, outputs_at, outputs_of};
 use std::alloc::{AllocError, Global};
 
 // Appends what isn't there yet.
@@ -80,15 +80,6 @@ fn cone_of(
         }
     }
     Ok(cone)
-}
-
-// Whether one of these registers isn't among others.
-fn is_any_outside(registers: &[RegId], others: &[RegId]) -> bool
-    ensures { result ≡ list_any (λ q. not (contains others.now q)) registers.now }
-{
-    registers
-        .iter()
-        .any(|register| !is_among(others, *register))
 }
 
 // Whether a process has its outputs in a cone, or isn't moved.
@@ -187,23 +178,42 @@ fn notes_keep_off(notes: &[StepNote], outputs: &[RegId], cone: &[RegId], touched
     true
 }
 
-/// Whether steps of others keep off processes that are held, of which some were pending at the begin.
-pub(crate) fn keep_off(
+/// What steps of others change, and the registers that held processes may still change meanwhile.
+#[derive(Drop)]
+pub(crate) struct HeldCone {
+    pub(crate) touched: Vec<RegId>,
+    pub(crate) registers: Vec<RegId>,
+}
+
+/// What steps of others change, and what processes that are held may still change, of which some were pending at the begin.
+pub(crate) fn cone_beside(
     alloc: Global,
     network: &Network,
     held: &[u32],
     pending: &[u32],
     notes: &[StepNote],
-) -> Result<bool, AllocError>
-    ensures { IfOk result (λ off. off ≡ true → KeptOff network.now held.now pending.now notes.now) }
-{
+) -> Result<HeldCone, AllocError> {
     let touched = touched_by(alloc, notes)?;
-    let cone = cone_of(alloc, network, held, pending, &touched)?;
+    let registers = cone_of(alloc, network, held, pending, &touched)?;
+    Ok(HeldCone { touched, registers })
+}
+
+/// Whether steps of others keep off processes that are held, of which some were pending at the begin, with this cone.
+pub(crate) fn keep_off(
+    alloc: Global,
+    network: &Network,
+    held: &[u32],
+    pending: &[u32],
+    cone: &HeldCone,
+    notes: &[StepNote],
+) -> Result<bool, AllocError>
+    ensures { IfOk result (λ off. off ≡ true → KeptOff network.now held.now pending.now cone.now.touched.items cone.now.registers.items notes.now) }
+{
     let outputs = outputs_of(alloc, network, held)?;
-    if !has_cone(network, held, pending, &touched, &cone) {
+    if !has_cone(network, held, pending, &cone.touched, &cone.registers) {
         return Ok(false);
     }
-    Ok(notes_keep_off(notes, &outputs, &cone, &touched))
+    Ok(notes_keep_off(notes, &outputs, &cone.registers, &cone.touched))
 }
 
 // Whether a step uses one of these outputs that is in a cone, writes one, or goes on to wait for one.
@@ -231,14 +241,12 @@ pub(crate) fn unmet_by(
     alloc: Global,
     network: &Network,
     held: &[u32],
-    pending: &[u32],
+    cone: &HeldCone,
     notes: &[StepNote],
 ) -> Result<Vec<u32>, AllocError> {
-    let touched = touched_by(alloc, notes)?;
-    let cone = cone_of(alloc, network, held, pending, &touched)?;
     let mut unmet = Vec::new(alloc);
     for process in held {
-        if !is_met(notes, outputs_at(network, *process), &cone) {
+        if !is_met(notes, outputs_at(network, *process), &cone.registers) {
             unmet.push(*process)?;
         }
     }

@@ -1,23 +1,28 @@
-//! A way of a walk through all that is active, in which combinational processes are held until the others are done.
-ghost use Rattle.std.specs.Prelude.{◌≡◌, true, IfOk, IfSome};
+//! A way of a walk through all that is active, in which combinational processes are held until the others are done, and those that wait for
+//! their outputs sleep.
+ghost use Rattle.std.specs.Prelude.{◌≡◌, true, length, IfOk, IfSome};
 ghost use Rattle.settling.specs.Settling.{ArePendingOrSettled, AreSomeOf, MayBeHeld};
 ghost use Rattle.loose.specs.Classes.{class_in};
 ghost use Rattle.model.specs.Turns.{contains};
 ghost use Rattle.model.specs.declared.end.Limits.{Limits};
 ghost use Rattle.combinational.specs.Found.{IsNetworkOf};
-ghost use Rattle.loosewalks.specs.Held.{HasAddedHeldNote, HasTakenOthers, HasHeld, HasHeldUntilSettled};
+ghost use Rattle.passing.specs.SleepThroughNotes.{SleepThroughNotes};
+ghost use Rattle.loosewalks.specs.Held.{HasAddedHeldNote, HasTakenOthers, IsHeldStart, HasHeld, HasHeldUntilSettled};
 ghost use Rattle.noted.specs.NotedSteps.{IsOfOther};
 ghost use Rattle.regions.specs.Machine.{state_at};
 
 use crate::active::{NamedEntry, first_other};
 use crate::certified::add_noted;
-use crate::cone::{keep_off, unmet_by};
+use crate::cone::{HeldCone, cone_beside, keep_off, unmet_by};
 use crate::phase::take_on;
 use crate::room::{LooseRoom, WalkScope};
+use certificates::note::StepNote;
 use noted::take_noted_beside;
+use passing::{HeldOutputs, sleep_through};
 use regions::Machine;
 use settling::{
-    Begin, evaluated_processes, held_of, members_settled_since, settle_since, settled_of,
+    Awaited, Begin, Sleeper, evaluated_processes, held_of, members_settled_since, settle_since,
+    settled_of, sleepers_of, with_sleepers,
 };
 use std::alloc::{AllocError, Global};
 
@@ -82,8 +87,96 @@ pub(crate) struct HeldScope<'a> {
     pub(crate) held: &'a [u32],
 }
 
-/// Takes all that is active: what is held comes last. Answers whether it came to where nothing is active, and the steps of the others
-/// certify each other and keep off what is held.
+/// What is kept of where processes are held from: which were pending, which others sleep, both that are left aside, the time, and the values.
+#[derive(Drop)]
+pub(crate) struct HeldStart {
+    pub(crate) pending: Vec<u32>,
+    pub(crate) sleepers: Vec<Sleeper>,
+    pub(crate) aside: Vec<u32>,
+    pub(crate) time: u64,
+    pub(crate) begin: Begin,
+}
+
+// What is kept of where a machine stands with processes that are held. None where one that waits for an output of theirs doesn't sleep.
+fn start_of(holding: HeldScope<'_>, machine: &Machine<'_>) -> Result<Option<HeldStart>, AllocError>
+    ensures { IfOk result (λ found. IfSome found (IsHeldStart machine.now holding.entry.scope.network.now holding.entry.held.now)) }
+{
+    let HeldScope { scope, held } = holding;
+    let sleepers = match sleepers_of(scope.alloc, machine, scope.network, held)? {
+        Some(sleepers) => sleepers,
+        None => return Ok(None),
+    };
+    let aside = with_sleepers(scope.alloc, held, &sleepers)?;
+    let (_, evaluations) = machine.state().active();
+    let pending = evaluated_processes(scope.alloc, evaluations)?;
+    let begin = Begin::of(scope.alloc, machine)?;
+    Ok(Some(HeldStart {
+        pending,
+        sleepers,
+        aside,
+        time: machine.time(),
+        begin,
+    }))
+}
+
+// Whether who sleeps sleeps through the steps of the others, with this cone, and through all that is held meanwhile.
+fn sleep_on(
+    holding: HeldScope<'_>,
+    start: &HeldStart,
+    cone: &HeldCone,
+    notes: &[StepNote],
+    machine: &Machine<'_>,
+) -> Result<bool, AllocError>
+    requires { length start.now.begin.values ≡ length machine.now.code.widths }
+    ensures { IfOk result (λ all. all ≡ true → SleepThroughNotes machine.now.code holding.entry.scope.network.now holding.entry.held.now cone.now.registers.items start.now.begin.values start.now.time notes.now start.now.sleepers.items) }
+{
+    if machine.time() != start.time {
+        return Ok(false);
+    }
+    let HeldScope { scope, held } = holding;
+    let outputs = HeldOutputs {
+        network: scope.network,
+        members: held,
+        cone: &cone.registers,
+        values: start.begin.values(),
+    };
+    sleep_through(scope.alloc, machine, outputs, &start.sleepers, notes)
+}
+
+// Takes all that is active from such a start: what is held comes last. Answers whether it came to where nothing is active, the steps of the
+// others certify each other and keep off what is held, and who sleeps sleeps through it.
+fn take_from(
+    holding: HeldScope<'_>,
+    start: &HeldStart,
+    room: &mut LooseRoom,
+    machine: &mut Machine<'_>,
+) -> Result<bool, AllocError>
+    requires { IsHeldStart machine.old holding.scope.network.now holding.held.now start.now }
+    ensures done { IfOk result (λ all. all ≡ true → (limits : Limits) → MayBeHeld machine.old.code (state_at machine.old) holding.entry.scope.network.now holding.entry.held.now → HasHeld (class_in holding.entry.scope.rules.classes.now) limits machine.old holding.entry.scope.network.now holding.entry.held.now room.new.way.items machine.new) }
+    ensures code { machine.new.code ≡ machine.old.code }
+{
+    let HeldScope { scope, held } = holding;
+    room.tried = held.len();
+    room.most = room.most.max(held.len());
+    if !take_others(machine, scope.rules.classes, &start.aside, room)? {
+        return Ok(false);
+    }
+    let notes = room.certificate.notes();
+    let pending = start.pending.as_slice();
+    let cone = cone_beside(scope.alloc, scope.network, held, pending, notes)?;
+    if !keep_off(scope.alloc, scope.network, held, pending, &cone, notes)? {
+        room.rest = unmet_by(scope.alloc, scope.network, held, &cone, notes)?;
+        return Ok(false);
+    }
+    if !sleep_on(holding, start, &cone, notes, machine)? {
+        return Ok(false);
+    }
+    let all = take_on(machine, scope.rules.classes, &mut room.way)?;
+    Ok(all)
+}
+
+/// Takes all that is active: what is held comes last. Answers whether it came to where nothing is active, the steps of the others certify
+/// each other and keep off what is held, and who waits for it sleeps through that.
 pub(crate) fn take_held(
     holding: HeldScope<'_>,
     room: &mut LooseRoom,
@@ -92,24 +185,15 @@ pub(crate) fn take_held(
     ensures done { IfOk result (λ all. all ≡ true → (limits : Limits) → MayBeHeld machine.old.code (state_at machine.old) holding.entry.scope.network.now holding.entry.held.now → HasHeld (class_in holding.entry.scope.rules.classes.now) limits machine.old holding.entry.scope.network.now holding.entry.held.now room.new.way.items machine.new) }
     ensures code { machine.new.code ≡ machine.old.code }
 {
-    let HeldScope { scope, held } = holding;
-    let (_, evaluations) = machine.state().active();
-    let pending = evaluated_processes(scope.alloc, evaluations)?;
-    room.tried = held.len();
-    if !take_others(machine, scope.rules.classes, held, room)? {
-        return Ok(false);
-    }
-    let notes = room.certificate.notes();
-    if !keep_off(scope.alloc, scope.network, held, &pending, notes)? {
-        room.rest = unmet_by(scope.alloc, scope.network, held, &pending, notes)?;
-        return Ok(false);
-    }
-    let all = take_on(machine, scope.rules.classes, &mut room.way)?;
-    Ok(all)
+    let start = match start_of(holding, machine)? {
+        Some(start) => start,
+        None => return Ok(false),
+    };
+    take_from(holding, &start, room, machine)
 }
 
 /// Takes all that is active likewise. Answers whether it came to where nothing is active, the steps of the others certify each other and keep
-/// off what is held, and what is held settles until there.
+/// off what is held, who waits for it sleeps through that, and what is held settles until there.
 pub(crate) fn take_held_until_settled(
     holding: HeldScope<'_>,
     room: &mut LooseRoom,
@@ -120,14 +204,17 @@ pub(crate) fn take_held_until_settled(
     ensures code { machine.new.code ≡ machine.old.code }
 {
     let HeldScope { scope, held } = holding;
-    let begin = Begin::of(scope.alloc, machine)?;
-    if !take_held(holding, room, machine)? {
+    let start = match start_of(holding, machine)? {
+        Some(start) => start,
+        None => return Ok(false),
+    };
+    if !take_from(holding, &start, room, machine)? {
         return Ok(false);
     }
-    if settle_since(scope.alloc, &begin, machine, scope.network, held)? {
+    if settle_since(scope.alloc, &start.begin, machine, scope.network, held)? {
         return Ok(true);
     }
-    room.rest = members_settled_since(scope.alloc, machine, scope.network, &begin, held)?;
+    room.rest = members_settled_since(scope.alloc, machine, scope.network, &start.begin, held)?;
     Ok(false)
 }
 
@@ -136,12 +223,13 @@ pub(crate) fn held_among(
     scope: WalkScope<'_>,
     machine: &Machine<'_>,
     among: &[u32],
+    awaited: Awaited,
 ) -> Result<Option<Vec<u32>>, AllocError>
     requires { IsNetworkOf machine.now.code scope.network.now }
     ensures may { IfOk result (λ found. IfSome found (λ held. MayBeHeld machine.now.code (state_at machine.now) scope.entry.network.now held.items)) }
     ensures subset { IfOk result (λ found. IfSome found (λ held. AreSomeOf held.items among.now)) }
 {
-    let held = match held_of(scope.alloc, machine, scope.network, among)? {
+    let held = match held_of(scope.alloc, machine, scope.network, among, awaited)? {
         Some(held) => held,
         None => return Ok(None),
     };
@@ -166,20 +254,22 @@ pub(crate) fn settled_members(
 {
     let every = every_process(scope.alloc, machine)?;
     let settled = settled_of(scope.alloc, machine, scope.network, &every)?;
-    held_among(scope, machine, &settled)
+    held_among(scope, machine, &settled, Awaited::Never)
 }
 
-/// The processes that may be held, where they are more than were held last.
+/// The processes that may be held, where they are more than were held last: those for whose outputs nobody else waits, or at edges alone if
+/// that may be.
 pub(crate) fn more_members(
     scope: WalkScope<'_>,
     tried: usize,
     machine: &Machine<'_>,
+    awaited: Awaited,
 ) -> Result<Option<Vec<u32>>, AllocError>
     requires { IsNetworkOf machine.now.code scope.network.now }
     ensures { IfOk result (λ found. IfSome found (λ held. MayBeHeld machine.now.code (state_at machine.now) scope.entry.network.now held.items)) }
 {
     let every = every_process(scope.alloc, machine)?;
-    let held = match held_among(scope, machine, &every)? {
+    let held = match held_among(scope, machine, &every, awaited)? {
         Some(held) => held,
         None => return Ok(None),
     };

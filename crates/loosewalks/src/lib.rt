@@ -9,7 +9,8 @@
 //! 5. `certified` takes all that is active, where the notes of its steps certify that they stand for all.
 //! 6. `held` does so while combinational processes are held, where the steps of the others keep off these (`cone`), and takes the events
 //!    of these last. Those are held alone at first that are pending or have settled; or else those too that wait though their turns would
-//!    change something, which then have to settle until the end; or else the rest without those that were in the way.
+//!    change something, which then have to settle until the end; or else the rest without those that were in the way; or else those too
+//!    for whose outputs others wait, which then have to sleep through it.
 //! 7. `walk` goes on so by its `rules`, up to the next choice, to where time would pass, or for some hundred steps, in the `room` that it
 //!    keeps.
 //!

@@ -9,7 +9,7 @@ use std::alloc::Global;
 use turn::TurnLog;
 
 /// What walks work in, one after another: the way that is tried, and the log, the note and the certificate of that. A try with held processes
-/// leaves for the next one how many these were, and where some of them were in its way, the rest.
+/// leaves for the next one how many these were, the most of all tries, and where some of them were in its way, the rest.
 #[derive(Drop)]
 pub struct LooseRoom {
     pub(crate) log: TurnLog,
@@ -17,6 +17,7 @@ pub struct LooseRoom {
     pub(crate) certificate: Certificate,
     pub(crate) way: Vec<LooseTransition>,
     pub(crate) tried: usize,
+    pub(crate) most: usize,
     pub(crate) rest: Vec<u32>,
 }
 
@@ -29,6 +30,7 @@ impl LooseRoom {
             certificate: Certificate::new(alloc),
             way: Vec::new(alloc),
             tried: 0,
+            most: 0,
             rest: Vec::new(alloc),
         }
     }
@@ -36,6 +38,7 @@ impl LooseRoom {
     /// Leaves nothing of the last try with held processes.
     pub(crate) fn forget_held(&mut self) {
         self.tried = 0;
+        self.most = 0;
         self.rest.clear();
     }
 }

@@ -31,12 +31,13 @@ const MOST_STEPS: usize = 256;
 const STEPS_PER_EVENT: usize = 4;
 
 // The ways that are tried, one after another, until one stands for all.
-const WAYS: [WayThrough; 5] = [
+const WAYS: [WayThrough; 6] = [
     WayThrough::Phase,
     WayThrough::Certified,
     WayThrough::HeldSettled,
     WayThrough::Held,
     WayThrough::HeldRest,
+    WayThrough::HeldAsleep,
 ];
 
 // Whether a walk stops where time would pass next.

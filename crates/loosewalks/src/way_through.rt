@@ -14,7 +14,7 @@ use crate::held::{
 use crate::phase::{have_logic, take_phase};
 use crate::room::{LooseRoom, WalkScope};
 use regions::Machine;
-use settling::phase_of;
+use settling::{Awaited, phase_of};
 use std::alloc::AllocError;
 
 /// A way through all that is active, which may stand for all.
@@ -30,6 +30,8 @@ pub(crate) enum WayThrough {
     Held,
     /// Likewise, where those are left out of the processes that were held last that steps of others met, or that didn't settle.
     HeldRest,
+    /// Likewise, where those are held too for whose outputs others wait at edges alone, if these sleep through it.
+    HeldAsleep,
 }
 
 /// The processes with which a way may be tried where a machine stands: the members of a phase, those that are held, or none where the notes
@@ -52,8 +54,9 @@ pub(crate) fn members_for(
         }
         WayThrough::Certified => Ok(Some(Vec::new(scope.alloc))),
         WayThrough::HeldSettled => settled_members(scope, machine),
-        WayThrough::Held => more_members(scope, room.tried, machine),
-        WayThrough::HeldRest => held_among(scope, machine, room.rest.as_slice()),
+        WayThrough::Held => more_members(scope, room.tried, machine, Awaited::Never),
+        WayThrough::HeldRest => { held_among(scope, machine, room.rest.as_slice(), Awaited::Never) }
+        WayThrough::HeldAsleep => more_members(scope, room.most, machine, Awaited::AtEdges),
     }
 }
 
@@ -83,5 +86,6 @@ pub(crate) fn take_way(
         WayThrough::HeldSettled => take_held(holding, room, machine),
         WayThrough::Held => take_held_until_settled(holding, room, machine),
         WayThrough::HeldRest => take_held_until_settled(holding, room, machine),
+        WayThrough::HeldAsleep => take_held_until_settled(holding, room, machine),
     }
 }

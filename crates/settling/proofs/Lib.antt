@@ -7,3 +7,4 @@ pub mod Standings
 pub mod Phases
 pub mod Since
 pub mod Tested
+pub mod Sleeping

@@ -39,17 +39,17 @@ pub record Held (code : Compiled) (s : State) (network : Network) (members outpu
   pub goes_on : s.finished ≡ false
   pub apart : (r : ℕ) → contains (updated_in s) r ≡ true → contains outputs r ≡ false
   pub outputs_are : HaveOutputs network members outputs
-  pub outputs_sleep : (q r : ℕ) → contains members q ≡ false → contains outputs r ≡ true → waits_for_register (continuation_of s q) r ≡ false
   pub each : AreMembers code s network members
 
--- and that nothing else is active but updates, for which only members wait
+-- and that nothing else is active but updates, and that only members wait for these and for outputs
 pub record Told (code : Compiled) (s : State) (network : Network) (members outputs : List ℕ) : Type 0 where
   pub held : Held code s network members outputs
   pub inside : (p : ℕ) → contains members p ≡ false → evaluations_in p s.active ≡ 0
   pub updates_sleep : (q r : ℕ) → contains members q ≡ false → contains (updated_in s) r ≡ true → waits_for_register (continuation_of s q) r ≡ false
+  pub outputs_sleep : (q r : ℕ) → contains members q ≡ false → contains outputs r ≡ true → waits_for_register (continuation_of s q) r ≡ false
 
 -- an output of a member is among the outputs
-is_listed : (code : Compiled) (s : State) (network : Network) (members outputs : List ℕ) → Held code s network members outputs → (p r : ℕ) → contains members p ≡ true → contains (block_at code network p).outputs r ≡ true → contains outputs r ≡ true
+pub is_listed : (code : Compiled) (s : State) (network : Network) (members outputs : List ℕ) → Held code s network members outputs → (p r : ℕ) → contains members p ≡ true → contains (block_at code network p).outputs r ≡ true → contains outputs r ≡ true
 is_listed code s network members outputs told p r there out =
     let m : IsMember code s network p = told.each p there in
     told.outputs_are p r m.logic there m.found (ap (λ (b : Block). contains b.outputs r) (sym (member_block code network p m.logic m.found)) ∙ out)
@@ -107,10 +107,10 @@ updates_apart : (code : Compiled) (s : State) (network : Network) (members outpu
 updates_apart code s network members outputs told r updated p there =
     none_if (contains (block_at code network p).outputs r) (contains outputs r) (is_listed code s network members outputs told p r there) (told.apart r updated)
 
-outputs_unawaited : (code : Compiled) (s : State) (network : Network) (members outputs : List ℕ) → Held code s network members outputs → (q r : ℕ) → contains members q ≡ false → IsOutput members (block_at code network) r
+outputs_unawaited : (code : Compiled) (s : State) (network : Network) (members outputs : List ℕ) → Told code s network members outputs → (q r : ℕ) → contains members q ≡ false → IsOutput members (block_at code network) r
     → waits_for_register (continuation_of s q) r ≡ false
 outputs_unawaited code s network members outputs told q r none (p, there, out) =
-    told.outputs_sleep q r none (is_listed code s network members outputs told p r there out)
+    told.outputs_sleep q r none (is_listed code s network members outputs told.held p r there out)
 
 pub may_be_held : (code : Compiled) (s : State) (network : Network) (members outputs : List ℕ) → Held code s network members outputs → MayBeHeld code s network members
 may_be_held code s network members outputs told =
@@ -122,14 +122,13 @@ may_be_held code s network members outputs told =
       single = λ p q r there there' differ out. is_single code s network p q r told.found differ (told.each p there) (told.each q there') out;
       updates = updates_apart code s network members outputs told;
       order = λ p q r there there' out in_it. order_if code s network members outputs told p q r (p == q) refl there there' out in_it;
-      others = outputs_unawaited code s network members outputs told;
     }
 
 sleeps_through : (code : Compiled) (s : State) (network : Network) (members outputs : List ℕ) → Told code s network members outputs → (q r : ℕ) → contains members q ≡ false
     → contains (updated_in s) r ≡ true ⊎ IsOutput members (block_at code network) r → waits_for_register (continuation_of s q) r ≡ false
 sleeps_through code s network members outputs told q r none (inl updated) = told.updates_sleep q r none updated
 sleeps_through code s network members outputs told q r none (inr out) =
-    outputs_unawaited code s network members outputs told.held q r none out
+    outputs_unawaited code s network members outputs told q r none out
 
 pub is_phase : (code : Compiled) (s : State) (network : Network) (members outputs : List ℕ) → Told code s network members outputs → IsPhaseOf code s network members
 is_phase code s network members outputs told =

@@ -27,8 +27,9 @@ use Rattle.regions.proofs.Evaluated.{remainder_is}
 use Rattle.combinational.specs.declared.block.Logic.{Logic}
 use Rattle.combinational.specs.declared.network.Network.{Network}
 use Rattle.combinational.specs.Found.{IsNetworkOf, HasLogic, block_in}
-use Rattle.settling.specs.Settling.{IsMember, IsMemberAt, IsPendingOrSettled}
+use Rattle.settling.specs.Settling.{IsMember, IsMemberAt, IsPendingOrSettled, IsPlaceBehind}
 use Rattle.settling.specs.LogicStanding.{IsContinuedAt, StandsBehind, HasUnchangingTurn, StandsAs}
+use Rattle.settling.proofs.Phases.{member_block}
 use Rattle.settling.proofs.Places.{element_at}
 
 -- a process that goes on so, and waits for these
@@ -129,3 +130,13 @@ left_by code design core values store p place now log writes stands codes time s
     let is' : IsTurnOn code place values core.time log =
     subst (λ (k : Compiled). IsTurnOn k place values core.time log) codes (subst (λ (vs : List Vector). IsTurnOn design place vs core.time log) still (subst (λ (t : ℕ). IsTurnOn design place store t log) time is)) in
     left_from code core values p place log stands is' at (subst (λ (ws : List (ℕ × Vector)). all_given values ws ≡ values) are leaves)
+
+-- where a process goes on behind its wait is a place of its own
+pub place_is : (code : Compiled) (core : Core) (values : List Vector) (network : Network) (p : ℕ) (logic : Logic) (x : Continuation) → Stands code core values → slice_get network.logics.items p ≡ Some (Some logic) → IsContinuedAt core p x.state
+    → StandsBehind x logic → IsPlaceBehind code network p x.state
+place_is code core values network p logic x stands found (within, at) behind =
+    let d : ProcState × List Trigger = (x.state, []) in
+    record {
+      own = subst (IsStateOf code p) (at d) (stands.states p d within);
+      rest = remainder_behind code x logic behind ∙ ap (λ (b : Block). b.rest) (sym (member_block code network p logic found));
+    }

@@ -1,7 +1,11 @@
--- Combinational processes of a network in a state.
-use Rattle.std.specs.Prelude.{◌≡◌, ◌≢◌, ◌⊎◌, ℕ, ◌<◌, true, false, List, [], length, Option, Some, None, slice_get}
+-- Combinational processes of a network in a state, and processes that sleep while these are held.
+use Rattle.std.specs.Prelude.{◌≡◌, ◌≢◌, ◌⊎◌, ℕ, ◌<◌, true, false, List, [], map, length, Option, Some, None, slice_get, slice_index_or}
+use Rattle.std.specs.List.{All}
 use Rattle.model.specs.Turns.{contains}
 use Rattle.model.specs.States.{State}
+use Rattle.model.specs.Laws.{evaluations_in}
+use Rattle.design.specs.declared.code.ProcState.{ProcState}
+use Rattle.design.specs.DesignInvariant.{remainder_of_state, controls_of, IsStateOf}
 use Rattle.design.specs.Compiled.{Compiled, design_of}
 use Rattle.phases.specs.Phase.{Block, continuation_of, IsBlock, IsTurnPending, IsBlockWaiting, HasSettled, waits_for_register, updated_in, IsOutput, IsPhase}
 use Rattle.combinational.specs.declared.block.Logic.{Logic}
@@ -9,6 +13,7 @@ use Rattle.combinational.specs.declared.network.Network.{Network}
 use Rattle.combinational.specs.Found.{block_in, rank_in}
 use Rattle.regions.specs.declared.queue.Continuation.{Continuation}
 use Rattle.regions.specs.Queue.{Core}
+use Rattle.settling.specs.declared.sleepers.Sleeper.{Sleeper}
 use Rattle.settling.specs.LogicStanding.{IsContinuedAt}
 
 -- the block of logic, and none where there is no logic
@@ -52,7 +57,7 @@ IsPhaseOf code s network members = IsPhase (design_of code) s members (block_at 
 
 -- In a state these processes of a network may be held while others go on: the run isn't finished, and each of them is combinational, and
 -- pending or waits. No register is an output of two of them, nor an output that is updated. They come in rank before those that read their
--- outputs. No other process waits for an output.
+-- outputs.
 pub record MayBeHeld (code : Compiled) (s : State) (network : Network) (members : List ℕ) : Type 0 where
   pub goes_on : s.finished ≡ false
   pub exist : (p : ℕ) → contains members p ≡ true → p < length s.processes
@@ -68,9 +73,28 @@ pub record MayBeHeld (code : Compiled) (s : State) (network : Network) (members 
   pub order :
       (p q r : ℕ) → contains members p ≡ true → contains members q ≡ true → contains (block_at code network p).outputs r ≡ true
       → contains (block_at code network q).inputs r ≡ true → rank_in network.ranks.items p < rank_in network.ranks.items q
+
+-- the processes that sleep
+abbrev pub sleeping : List Sleeper → List ℕ
+sleeping sleepers = map (λ x. x.process) sleepers
+
+-- a sleeper waits by its event control
+abbrev pub WaitsBy : Compiled → State → Sleeper → Type 0
+WaitsBy code s x = (continuation_of s x.process).triggers ≡ slice_index_or (controls_of code) x.control []
+
+-- The sleepers are those processes but these members that wait for an output of a member. None of them has an active evaluation.
+pub record AreSleepers (code : Compiled) (s : State) (network : Network) (members : List ℕ) (sleepers : List Sleeper) : Type 0 where
   pub others :
-      (q r : ℕ) → contains members q ≡ false → IsOutput members (block_at code network) r
+      (q r : ℕ) → contains members q ≡ false → contains (sleeping sleepers) q ≡ false → IsOutput members (block_at code network) r
       → waits_for_register (continuation_of s q) r ≡ false
+  pub outside : (q : ℕ) → contains (sleeping sleepers) q ≡ true → contains members q ≡ false
+  pub idle : (q : ℕ) → contains (sleeping sleepers) q ≡ true → evaluations_in q s.active ≡ 0
+  pub wait : All (WaitsBy code s) sleepers
+
+-- a process with logic goes on from this place behind its wait
+pub record IsPlaceBehind (code : Compiled) (network : Network) (p : ℕ) (place : ProcState) : Type 0 where
+  pub own : IsStateOf code p place
+  pub rest : remainder_of_state code place ≡ (block_at code network p).rest
 
 -- each of these processes is one of those
 abbrev pub AreSomeOf : List ℕ → List ℕ → Type 0

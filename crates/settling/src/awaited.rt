@@ -7,6 +7,7 @@ ghost use Rattle.settling.specs.Waiting.{WaitsForNone, OthersSleep};
 
 use combinational::is_among;
 use design::{Control, RegId};
+use model::tree::Change;
 use regions::Continuation;
 
 // Whether an event control waits for none of these registers.
@@ -70,6 +71,49 @@ pub(crate) fn others_sleep(
 {
     for at in 0..processes.len() {
         if !sleeps_at(controls, processes, members, registers, at) {
+            return false;
+        }
+    }
+    true
+}
+
+/// Whether an event control waits for one of these registers.
+pub(crate) fn waits_for_any(control: &Control, registers: &[RegId]) -> bool {
+    registers
+        .iter()
+        .any(|register| control.waits_for(*register))
+}
+
+// Whether an event control waits for edges alone of those of these registers for which it waits (9.7.2).
+fn waits_for_edges(control: &Control, registers: &[RegId]) -> bool {
+    for trigger in control.triggers() {
+        if trigger.0 == Change::Any && is_among(registers, trigger.1) {
+            return false;
+        }
+    }
+    true
+}
+
+// Whether whoever waits at an event control, or at none, waits for none of these registers, or for edges of them alone.
+fn lets(controls: &[Control], waits: Option<usize>, registers: &[RegId]) -> bool {
+    match waits {
+        Some(number) => match controls.get(number) {
+            Some(control) => waits_for_edges(control, registers),
+            None => false,
+        },
+        None => true,
+    }
+}
+
+/// Whether each process but these waits for none of the registers, or for edges of them alone (9.7.2).
+pub(crate) fn others_wait_at_edges(
+    controls: &[Control],
+    processes: &[Continuation],
+    members: &[u32],
+    registers: &[RegId],
+) -> bool {
+    for at in 0..processes.len() {
+        if !is_one(members, at) && !lets(controls, processes[at].waits, registers) {
             return false;
         }
     }

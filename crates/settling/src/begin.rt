@@ -39,4 +39,11 @@ impl Begin {
         let values = machine.store().copy(alloc)?;
         Ok(Begin { values, pending })
     }
+
+    /// The values of the registers there.
+    pub fn values(&self) -> &PlainStore
+        ensures { result.now ≡ self.now.values }
+    {
+        &self.values
+    }
 }

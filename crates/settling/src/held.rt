@@ -5,7 +5,7 @@ ghost use Rattle.combinational.specs.Found.{IsNetworkOf};
 ghost use Rattle.regions.specs.Machine.{state_at};
 ghost use Rattle.settling.specs.Settling.{IsMember, AreMembers, ArePendingOrSettled, AreSomeOf, HaveOutputs, MayBeHeld};
 
-use crate::awaited::others_sleep;
+use crate::awaited::{others_sleep, others_wait_at_edges};
 use crate::member::{is_member, is_pending_or_settled};
 use crate::phase::{is_over, outputs_at, outputs_of, updated};
 use combinational::{Network, share};
@@ -66,20 +66,41 @@ fn candidates(
     Ok(members)
 }
 
-// Those of these processes for whose outputs nobody else waits.
+/// For which outputs of members others may wait: for none, or for some at their edges alone, which then have to sleep.
+#[derive(Clone, Copy, PartialEq, Eq)]
+pub enum Awaited {
+    Never,
+    AtEdges,
+}
+
+// Whether each process but these members waits for none of these registers, or for edges of them alone if it may.
+fn others_let(
+    machine: &Machine<'_>,
+    members: &[u32],
+    registers: &[RegId],
+    awaited: Awaited,
+) -> bool {
+    let controls = machine.design().event_controls();
+    let processes = machine.state().processes();
+    match awaited {
+        Awaited::Never => others_sleep(controls, processes, members, registers),
+        Awaited::AtEdges => others_wait_at_edges(controls, processes, members, registers),
+    }
+}
+
+// Those of these processes for whose outputs nobody else waits, but at edges if they may.
 fn unawaited(
     alloc: Global,
     machine: &Machine<'_>,
     network: &Network,
     members: &[u32],
+    awaited: Awaited,
 ) -> Result<Vec<u32>, AllocError>
     ensures { IfOk result (λ fewer. AreSomeOf fewer.items members.now) }
 {
-    let controls = machine.design().event_controls();
-    let processes = machine.state().processes();
     let mut fewer = Vec::new(alloc);
     for member in members {
-        if others_sleep(controls, processes, members, outputs_at(network, *member)) {
+        if others_let(machine, members, outputs_at(network, *member), awaited) {
             fewer.push(*member)?;
         }
     }
@@ -92,12 +113,13 @@ fn kept(
     machine: &Machine<'_>,
     network: &Network,
     members: Vec<u32>,
+    awaited: Awaited,
 ) -> Result<Vec<u32>, AllocError>
     ensures { IfOk result (λ fewer. AreSomeOf fewer.items members.items) }
 {
     let mut members = members;
     for _ in 0..members.len() {
-        let fewer = unawaited(alloc, machine, network, &members)?;
+        let fewer = unawaited(alloc, machine, network, &members, awaited)?;
         if fewer.len() == members.len() {
             return Ok(fewer);
         }
@@ -126,19 +148,17 @@ fn may_be_held(
     if share(registers, outputs) {
         return false;
     }
-    machine.stands();
-    let controls = machine.design().event_controls();
-    let processes = machine.state().processes();
-    others_sleep(controls, processes, members, outputs)
+    true
 }
 
-/// Those of these processes that may be held in the state of a machine while the others go on: as many as are found. None where that isn't
-/// told.
+/// Those of these processes that may be held in the state of a machine while the others go on: as many as are found for whose outputs nobody
+/// else waits, or at edges alone if that may be. None where that isn't told.
 pub fn held_of(
     alloc: Global,
     machine: &Machine<'_>,
     network: &Network,
     among: &[u32],
+    awaited: Awaited,
 ) -> Result<Option<Vec<u32>>, AllocError>
     requires found { IsNetworkOf machine.now.code network.now }
     ensures may { IfOk result (λ found. IfSome found (λ members. MayBeHeld machine.now.code (state_at machine.now) network.now members.items)) }
@@ -147,7 +167,7 @@ pub fn held_of(
     let (updates, _) = machine.state().active();
     let registers = updated(alloc, updates)?;
     let members = candidates(alloc, machine, network, &registers, among)?;
-    let members = kept(alloc, machine, network, members)?;
+    let members = kept(alloc, machine, network, members, awaited)?;
     let outputs = outputs_of(alloc, network, &members)?;
     if !may_be_held(machine, network, &members, &outputs, &registers) {
         return Ok(None);

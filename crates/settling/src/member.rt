@@ -1,4 +1,4 @@
-//! Whether a process is combinational, and pending or waits, or has settled.
+//! Whether a process is combinational, and pending or waits, or has settled, and where it goes on.
 ghost use Rattle.std.specs.Prelude.{◌≡◌, ◌≢◌, ◌≤◌, ℕ, true, false, Some, None, [], ◌∷◌, map, slice_get, IfOk, IfSome};
 ghost use Rattle.model.specs.Turns.{contains};
 ghost use Rattle.model.specs.Laws.{evaluations_in};
@@ -7,7 +7,7 @@ ghost use Rattle.combinational.specs.declared.block.Logic.{Logic as Found};
 ghost use Rattle.combinational.specs.Found.{IsNetworkOf};
 ghost use Rattle.regions.specs.Machine.{state_at};
 ghost use Rattle.regions.specs.Queue.{evaluation_event};
-ghost use Rattle.settling.specs.Settling.{IsMember, AreMembers, IsMemberAt, IsPendingOrSettled};
+ghost use Rattle.settling.specs.Settling.{IsMember, AreMembers, IsMemberAt, IsPendingOrSettled, IsPlaceBehind};
 ghost use Rattle.settling.specs.LogicStanding.{IsContinuedAt, StandsBehind, HasUnchangingTurn, StandsAs};
 
 use crate::consistent::leaves_values;
@@ -95,6 +95,26 @@ fn member_at(machine: &Machine<'_>, network: &Network, process: u32) -> Option<C
         return None;
     }
     Some(continuation)
+}
+
+/// The place from which a process with logic goes on behind its wait, where it goes on there.
+pub fn place_behind(machine: &Machine<'_>, network: &Network, process: u32) -> Option<ProcState>
+    ensures { IfSome result (λ place. IsPlaceBehind machine.now.code network.now process place) }
+{
+    let own = logic_at(network, process)?;
+    let continuation = *machine.state().processes().get(process as usize)?;
+    if !is_behind(&continuation, own) {
+        return None;
+    }
+    machine.stands();
+    Some(continuation.state)
+}
+
+/// Whether no evaluation of a process is active.
+pub(crate) fn is_idle(machine: &Machine<'_>, process: u32) -> bool
+    ensures { result ≡ true → evaluations_in process (state_at machine.now).active ≡ 0 }
+{
+    times(machine.state().active().1, process) == 0
 }
 
 /// Whether a process is combinational, and pending or waits.

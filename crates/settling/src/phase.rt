@@ -1,5 +1,7 @@
 //! Whether the state of a machine is a phase.
-ghost use Rattle.std.specs.Prelude.{◌≡◌, true, false, map, Some, slice_get, IfOk, IfSome};
+ghost use Rattle.std.specs.Prelude.{◌≡◌, true, false, not, map, Some, slice_get, IfOk, IfSome};
+ghost use Rattle.std.specs.List.{list_any};
+ghost use Rattle.model.specs.Turns.{contains};
 ghost use Rattle.orders.specs.Alike.{updates_in};
 ghost use Rattle.combinational.specs.Found.{IsNetworkOf};
 ghost use Rattle.combinational.specs.declared.block.Logic.{Logic as Found};
@@ -10,7 +12,7 @@ ghost use Rattle.settling.specs.Settling.{HaveOutputs, IsPhaseOf};
 use crate::awaited::others_sleep;
 use crate::member::{are_inside, are_members, logic_at};
 use crate::reached::reached;
-use combinational::{Network, share};
+use combinational::{Network, is_among, share};
 use design::RegId;
 use regions::{Machine, Update};
 use std::alloc::{AllocError, Global};
@@ -61,6 +63,15 @@ pub fn outputs_of(
         registers.extend_from_slice(outputs_at(network, *member))?;
     }
     Ok(registers)
+}
+
+/// Whether one of these registers isn't among others.
+pub fn is_any_outside(registers: &[RegId], others: &[RegId]) -> bool
+    ensures { result ≡ list_any (λ q. not (contains others.now q)) registers.now }
+{
+    registers
+        .iter()
+        .any(|register| !is_among(others, *register))
 }
 
 /// Whether a turn met `$finish`.

@@ -1,6 +1,5 @@
 -- Held ways cover.
-use Rattle.heldways.proofs.WaysKept.{certified_keep_off}
-use Rattle.heldways.proofs.HeldEnds.{held_ends_in_one_node}
+use Rattle.heldways.proofs.AsleepEnds.{certified_keep_off, held_ends_in_one_node}
 use Rattle.heldways.proofs.HeldCovering.{held_way_covers}
 use Rattle.heldways.proofs.laws.held_ways_cover.Goals as goal
 

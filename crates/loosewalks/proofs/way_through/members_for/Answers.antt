@@ -18,3 +18,6 @@ returns-in-Held c = subst (λ way. IfOk c.more_members.result (λ found. IfSome 
 
 pub returns-in-HeldRest : goal.returns-in-HeldRest
 returns-in-HeldRest c = subst (λ way. IfOk c.held_among.result (λ found. IfSome found (λ members. IsFit way c.args.machine.now c.args.scope.network.now members.items))) (sym c.in-HeldRest.is) c.held_among.ensures.may
+
+pub returns-in-HeldAsleep : goal.returns-in-HeldAsleep
+returns-in-HeldAsleep c = subst (λ way. IfOk c.more_members-in-HeldAsleep.result (λ found. IfSome found (λ members. IsFit way c.args.machine.now c.args.scope.network.now members.items))) (sym c.in-HeldAsleep.is) c.more_members-in-HeldAsleep.ensures

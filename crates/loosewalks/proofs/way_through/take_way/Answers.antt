@@ -51,6 +51,15 @@ returns-in-HeldRest-clause-sole c =
     (λ done. settled_sole old c.take_held_until_settled-in-HeldRest.new.machine scope.network.now c.args.members.now (class_in scope.rules.classes.now) scope.rules.limits c.take_held_until_settled-in-HeldRest.new.room.way.items (done scope.rules.limits may) c.requires.active)
     c.take_held_until_settled-in-HeldRest.ensures.done
 
+pub returns-in-HeldAsleep-clause-sole : goal.returns-in-HeldAsleep-clause-sole
+returns-in-HeldAsleep-clause-sole c =
+    let scope = c.args.scope in
+    let old = c.args.machine.now in
+    let may = subst (λ way. IsFit way old scope.network.now c.args.members.now) c.in-HeldAsleep.is c.requires.fit in
+    all_ok c.take_held_until_settled-in-HeldAsleep.result _ _
+    (λ done. settled_sole old c.take_held_until_settled-in-HeldAsleep.new.machine scope.network.now c.args.members.now (class_in scope.rules.classes.now) scope.rules.limits c.take_held_until_settled-in-HeldAsleep.new.room.way.items (done scope.rules.limits may) c.requires.active)
+    c.take_held_until_settled-in-HeldAsleep.ensures.done
+
 pub returns-in-Phase-clause-actors : goal.returns-in-Phase-clause-actors
 returns-in-Phase-clause-actors c =
     let rules = c.args.scope.rules in
@@ -86,3 +95,12 @@ returns-in-HeldRest-clause-actors c =
     let may = subst (λ way. IsFit way old scope.network.now held) c.in-HeldRest.is c.requires.fit in
     all_ok c.take_held_until_settled-in-HeldRest.result _ _
     (λ done. settled_actors (class_in scope.rules.classes.now) scope.rules.limits old c.take_held_until_settled-in-HeldRest.new.machine scope.network.now held c.take_held_until_settled-in-HeldRest.new.room.way.items (done scope.rules.limits may)) c.take_held_until_settled-in-HeldRest.ensures.done
+
+pub returns-in-HeldAsleep-clause-actors : goal.returns-in-HeldAsleep-clause-actors
+returns-in-HeldAsleep-clause-actors c =
+    let scope = c.args.scope in
+    let old = c.args.machine.now in
+    let held = c.args.members.now in
+    let may = subst (λ way. IsFit way old scope.network.now held) c.in-HeldAsleep.is c.requires.fit in
+    all_ok c.take_held_until_settled-in-HeldAsleep.result _ _
+    (λ done. settled_actors (class_in scope.rules.classes.now) scope.rules.limits old c.take_held_until_settled-in-HeldAsleep.new.machine scope.network.now held c.take_held_until_settled-in-HeldAsleep.new.room.way.items (done scope.rules.limits may)) c.take_held_until_settled-in-HeldAsleep.ensures.done

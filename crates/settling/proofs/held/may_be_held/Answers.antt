@@ -3,7 +3,7 @@ use Rattle.std.proofs.Common.{refl}
 use Rattle.regions.specs.Machine.{state_at}
 use Rattle.phases.specs.Phase.{updated_in}
 use Rattle.settling.proofs.Phases.{may_be_held}
-use Rattle.settling.proofs.Tested.{sleep_told, apart_told}
+use Rattle.settling.proofs.Tested.{apart_told}
 use Rattle.settling.proofs.held.may_be_held.Goals as goal
 
 pub returns : goal.returns
@@ -19,6 +19,5 @@ returns c = λ on.
       goes_on = c.is_over.ensures c.if-is_over.false;
       apart = apart_told (updated_in s) registers outputs outputs c.requires.registers refl (c.share.ensures.apart c.if-share.false);
       outputs_are = c.requires.outputs;
-      outputs_sleep = sleep_told m.code c.design.result.now m.core c.state.result.now m.values c.processes-processes.result.now c.event_controls-controls.result.now members outputs outputs c.design.ensures c.stands.ensures c.event_controls-controls.ensures c.processes-processes.ensures c.state.ensures refl (c.others_sleep.ensures on);
       each = c.requires.each;
     })
