@@ -38,6 +38,11 @@ pub left-time : (told : Option ℕ) (left : Option Stopped) (time : ℕ) → (le
 left-time told None time cut = absurd (cut refl)
 left-time told (Some s) time cut = earliest-time told time
 
+-- what is no later than a time is no later than one behind it
+pub no_later_than : (told : Option ℕ) (time n : ℕ) → IsNoLater told time → time ≤ n → IsNoLater told n
+no_later_than None time n is less = absurd is
+no_later_than (Some t) time n is less = omega (arith, is, less)
+
 -- nothing is there, or something is
 pub none_or_not : {X : Type 0} (o : Option X) → (o ≡ None) ⊎ (o ≡ None → ⊥)
 none_or_not None = inl refl
@@ -88,24 +93,24 @@ known_or_open_more runs time_of old mid new p shown shown' told told' k lineage 
 ]
 
 -- the time of a pending node
-pending_time : (times : List ℕ) (pending : List Reached) (told k : ℕ) → All (λ p. told ≤ get_or times p.number 0) pending → Any (λ p. p.number ≡ k) pending → told ≤ get_or times k 0
+pending_time : (times : List ℕ) (pending : List Reached) (told : Option ℕ) (k : ℕ) → All (λ p. IsNoLater told (get_or times p.number 0)) pending → Any (λ p. p.number ≡ k) pending → IsNoLater told (get_or times k 0)
 pending_time times pending told k all at =
-    subst (λ (n : ℕ). told ≤ get_or times n 0) (ap (λ (p : Reached). p.number) at.3 ∙ at.4) (all at.0 at.1 at.2)
+    subst (λ (n : ℕ). IsNoLater told (get_or times n 0)) (ap (λ (p : Reached). p.number) at.3 ∙ at.4) (all at.0 at.1 at.2)
 
 -- Where a time is told that isn't behind those of pending nodes, nothing before it was left out.
-pub closed_off : {M N E : Type 0} (runs : Runs M N E) (time_of : N → ℕ) (kept : KeptNodes N M) (shown : List (Shown M E)) (told : Option ℕ) (time : ℕ) → AreTimed runs time_of (ways kept.lineage) kept.links.times.items →
-    ((k : ℕ) → k < length (ways kept.lineage) → IsKnownOrOpen runs time_of kept shown told k) → ((n : ℕ) → IsNoLater told n → time ≤ n) → All (λ p. time ≤ get_or kept.links.times.items p.number 0) kept.pending.items →
-    0 < length (ways kept.lineage) → get_or (ways kept.lineage) 0 [] ≡ [] → AreFollowedBefore runs time_of shown (Some time)
-closed_off {M} {N} {E} runs time_of kept shown told time timed known lower all some first =
+pub closed_off : {M N E : Type 0} (runs : Runs M N E) (time_of : N → ℕ) (kept : KeptNodes N M) (shown : List (Shown M E)) (told least : Option ℕ) → AreTimed runs time_of (ways kept.lineage) kept.links.times.items →
+    ((k : ℕ) → k < length (ways kept.lineage) → IsKnownOrOpen runs time_of kept shown told k) → ((n : ℕ) → IsNoLater told n → IsNoLater least n) → All (λ p. IsNoLater least (get_or kept.links.times.items p.number 0)) kept.pending.items →
+    0 < length (ways kept.lineage) → get_or (ways kept.lineage) 0 [] ≡ [] → AreFollowedBefore runs time_of shown least
+closed_off {M} {N} {E} runs time_of kept shown told least timed known lower all some first =
     let reached = ways kept.lineage in
     let times = kept.links.times.items in
     record {
       reached = reached;
       starts = (some, first);
-      each = λ k d within. subst (λ (run : List M). IsFollowedOrOpen runs time_of shown (Some time) reached run) (get_or_default reached k [] d within)
+      each = λ k d within. subst (λ (run : List M). IsFollowedOrOpen runs time_of shown least reached run) (get_or_default reached k [] d within)
           (elim (known k within) [
-            | inl at ↦ inr (open_at runs time_of reached times (Some time) k timed within (pending_time times kept.pending.items time k all at))
-            | inr before ↦ followed_or_open_more runs time_of reached reached shown shown told (Some time) (get_or reached k []) (Extends-itself reached) (Extends-itself shown) lower before
+            | inl at ↦ inr (open_at runs time_of reached times least k timed within (pending_time times kept.pending.items least k all at))
+            | inr before ↦ followed_or_open_more runs time_of reached reached shown shown told least (get_or reached k []) (Extends-itself reached) (Extends-itself shown) lower before
           ]);
     }
 

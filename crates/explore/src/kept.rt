@@ -43,10 +43,12 @@ pub(crate) struct KeptNodes<N, M> {
     pub(crate) nodes: Nodes<N>,
     /// The last key that was asked for.
     pub(crate) key: Vec<u8>,
+    /// About how many bytes the texts that are shown take, with their moves.
+    pub(crate) shown_bytes: usize,
 }
 
 impl<N: Drop, M: Copy> KeptNodes<N, M> {
-    /// About how many bytes it takes.
+    /// About how many bytes it takes, with what is shown.
     pub(crate) fn bytes(&self) -> usize {
         let reached = self.pending.capacity().saturating_mul(size_of::<Reached>());
         self.lineage
@@ -56,6 +58,7 @@ impl<N: Drop, M: Copy> KeptNodes<N, M> {
             .saturating_add(self.links.bytes())
             .saturating_add(self.nodes.bytes())
             .saturating_add(reached)
+            .saturating_add(self.shown_bytes)
     }
 }
 
@@ -98,6 +101,7 @@ pub(crate) fn first<O: Orders>(
         pending,
         nodes,
         key,
+        shown_bytes: 0,
     })
 }
 

@@ -99,7 +99,7 @@ pub struct Bounds {
     pub nodes: usize,
     /// The most texts and ends that are shown.
     pub shown: usize,
-    /// About the most bytes that are kept.
+    /// About the most bytes that are kept, what is shown among them.
     pub bytes: usize,
 }
 

@@ -8,8 +8,8 @@ ghost use Rattle.explore.specs.Lineage.{ways, IsLineage};
 use crate::pieces::Pieces;
 use std::alloc::{AllocError, Global};
 
-// About how many bytes a move takes.
-const MOVE_BYTES: usize = 16;
+/// About how many bytes a move takes.
+pub(crate) const MOVE_BYTES: usize = 16;
 
 /// Runs by their numbers. The run of number 0 has no moves, and the others have a step each: the number of the run that they go on
 /// from, and their further moves.

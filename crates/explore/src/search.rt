@@ -5,9 +5,9 @@ ghost use Rattle.sharing.specs.Parts.{Extends};
 ghost use Rattle.explore.specs.SearchKept.{AreContinued, AreKept, Grows, IsPendingNode};
 ghost use Rattle.explore.specs.Search.{AreAllShown, AreCounted, AreDistinct, IsEndless, IsFollowed, IsOfRun, IsShown, Serves};
 ghost use Rattle.explore.specs.Outcome.{followed_before_of, stopped_of};
-ghost use Rattle.explore.specs.Reach.{AreFollowedBefore, AreTimed, HasNode, earliest};
+ghost use Rattle.explore.specs.Reach.{AreFollowedBefore, AreTimed, HasNode, IsNoLater, IsWayAmong, earliest};
 ghost use Rattle.explore.specs.NumberedTexts.{texts};
-ghost use Rattle.explore.specs.Lineage.{ways};
+ghost use Rattle.explore.specs.Lineage.{ways, IsLineage};
 ghost use Rattle.explore.specs.declared.stopped.Stopped.TheVariants as stop;
 
 use crate::again::node_at;
@@ -15,7 +15,7 @@ use crate::choices::{ChoiceCounts, widest_way};
 use crate::endless::find_endless;
 use crate::kept::{KeptNodes, Pending, first, follow_all};
 use crate::reach::{earliest, earliest_left, earliest_pending};
-use crate::show::{ReachedRun, show_all};
+use crate::show::{ReachedRun, bytes_since, show_all};
 use crate::{Bounds, Expanded, Explored, Orders, SearchScope, Shown, Stopped};
 use progress::{HowFar, Progress};
 use std::alloc::{AllocError, Global};
@@ -81,8 +81,8 @@ fn earlier(one: Option<Stopped>, other: Option<Stopped>) -> Option<Stopped>
     }
 }
 
-/// Expands a node: shows its ways that have come to an end, keeps the nodes that the others lead to, and counts these ways. The answer is
-/// why something was left out. Where that is a text, the nodes aren't kept.
+/// Expands a node: shows its ways that have come to an end, keeps the nodes that the others lead to, and counts these ways, and the bytes
+/// of what is shown. The answer is why something was left out. Where that is a text, the nodes aren't kept.
 fn expand_node<O: Orders>(
     scope: SearchScope<'_, O>,
     room: &mut O::Room,
@@ -126,6 +126,7 @@ fn expand_node<O: Orders>(
         texts: &kept.texts,
         reached,
     };
+    let before = shown.len();
     let told = show_all(scope, run, shown, ended)?;
     if !told {
         return Ok(Some(Stopped::Shown));
@@ -133,6 +134,9 @@ fn expand_node<O: Orders>(
     let followed = follow_all(scope, room, kept, reached, successors)?;
     let left = left_out(whole, followed);
     kept.links.settle(reached.number, goes_on & is_whole(left));
+    let bytes = bytes_since(shown.as_slice(), before);
+    let shown_bytes = kept.shown_bytes.saturating_add(bytes);
+    kept.shown_bytes = shown_bytes;
     Ok(left)
 }
 
@@ -151,6 +155,30 @@ fn earliest_open<N: Drop, M: Copy>(kept: &KeptNodes<N, M>, told: Option<u64>, ti
 {
     let first = earliest(told, time);
     earliest_pending(&kept.links, kept.pending.as_slice(), first)
+}
+
+/// How a search ends that stops with nodes pending, by the least time of what was left open and that of the node that was taken last.
+fn stopped_early<N: Drop, M: Copy>(
+    alloc: Global,
+    kept: &KeptNodes<N, M>,
+    choices: &ChoiceCounts,
+    stopped: Option<Stopped>,
+    told: Option<u64>,
+    time: u64,
+) -> SearchOutcome<M>
+    requires lineage { IsLineage kept.now.lineage }
+    ensures stopped { result.stopped ≡ stopped }
+    ensures endless { result.endless ≡ None }
+    ensures told { IsNoLater result.followed_before (earliest told time) }
+    ensures pending { All (λ p. IsNoLater result.followed_before (get_or kept.now.links.times.items p.number 0)) kept.now.pending.items }
+    ensures widest { IfSome result.widest (λ moves. IsWayAmong (ways kept.now.lineage) moves.items) }
+{
+    SearchOutcome {
+        stopped,
+        endless: None,
+        followed_before: Some(earliest_open(kept, told, time)),
+        widest: widest_way(alloc, &kept.lineage, choices),
+    }
 }
 
 /// Searches from the node at the start of the runs on, shows what the runs print and how they end, and counts the nodes that are kept.
@@ -190,12 +218,8 @@ fn search_from<O: Orders, P: Progress>(
         let number = reached.number;
         let time = kept.links.time_at(number);
         if kept.bytes() > scope.bounds.bytes {
-            return Ok(SearchOutcome {
-                stopped: Some(Stopped::Bytes),
-                endless: None,
-                followed_before: Some(earliest_open(kept, since, time)),
-                widest: widest_way(scope.alloc, &kept.lineage, &choices),
-            });
+            let why = Some(Stopped::Bytes);
+            return Ok(stopped_early(scope.alloc, kept, &choices, why, since, time));
         }
         let node = node_at(scope, room, &kept.lineage, &mut kept.nodes, number)?;
         let at = Pending { node, reached };
@@ -204,12 +228,7 @@ fn search_from<O: Orders, P: Progress>(
         tell_nodes(progress, *nodes, count, time);
         *nodes = count;
         if is_full(left) {
-            return Ok(SearchOutcome {
-                stopped: left,
-                endless: None,
-                followed_before: Some(earliest_open(kept, since, time)),
-                widest: widest_way(scope.alloc, &kept.lineage, &choices),
-            });
+            return Ok(stopped_early(scope.alloc, kept, &choices, left, since, time));
         }
         stopped = earlier(stopped, left);
         since = earliest_left(since, left, time);

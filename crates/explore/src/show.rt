@@ -7,10 +7,25 @@ ghost use Rattle.explore.specs.Search.{AreDistinct, Differs, IsEndedPath, IsOfRu
 ghost use Rattle.explore.specs.Lineage.{ways};
 
 use crate::kept::Reached;
-use crate::lineage::Lineage;
+use crate::lineage::{Lineage, MOVE_BYTES};
 use crate::text_table::TextTable;
 use crate::{EndedPath, Orders, SearchScope, Shown};
 use std::alloc::AllocError;
+
+// About how many bytes one that is shown takes, besides its text and its moves.
+const SHOWN_BYTES: usize = 96;
+
+/// About how many bytes those take that are shown from this place on.
+pub(crate) fn bytes_since<M: Copy, E>(shown: &[Shown<M, E>], since: usize) -> usize {
+    let mut bytes = 0_usize;
+    for place in since..shown.len() {
+        let one = &shown[place];
+        let moves = one.moves.capacity().saturating_mul(MOVE_BYTES);
+        let text = one.text.capacity().saturating_add(SHOWN_BYTES);
+        bytes = bytes.saturating_add(text).saturating_add(moves);
+    }
+    bytes
+}
 
 /// A run that was reached, and what holds its moves and its text.
 #[derive(Clone, Copy)]

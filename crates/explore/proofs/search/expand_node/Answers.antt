@@ -67,7 +67,7 @@ returns-clause-continued g c k unmarked =
     let number = c.args.at.reached.number in
     let way = get_or (ways old.lineage) number [] in
     let grows = c.in_ok-followed.ensures.further.grows in
-    let new : KeptNodes g.row.O-Node.Denot g.row.O-Move.Denot = record { lineage = kept.lineage; texts = kept.texts; visited = kept.visited; links = c.settle.new.self; pending = kept.pending; nodes = kept.nodes; key = kept.key } in
+    let new : KeptNodes g.row.O-Node.Denot g.row.O-Move.Denot = record { lineage = kept.lineage; texts = kept.texts; visited = kept.visited; links = c.settle.new.self; pending = kept.pending; nodes = kept.nodes; key = kept.key; shown_bytes = c.saturating_add-shown_bytes.result } in
     let edges : Extends kept.links.edges.items new.links.edges.items = subst (λ (l : List SearchEdge). Extends kept.links.edges.items l) (sym c.settle.ensures.edges) (Extends-itself kept.links.edges.items) in
     let settled = λ (j : ℕ) (here : IsContinued runs kept j). IsContinued-more runs kept new j (Extends-itself (ways kept.lineage)) (Extends-itself (pieces kept.lineage.steps)) edges here in
     elim (c.settle.ensures.may_end k unmarked) [
