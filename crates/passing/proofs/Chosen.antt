@@ -1,5 +1,5 @@
 -- Turns on values that were chosen stand for those on all stores with these values.
-use Rattle.std.proofs.Common.{◌≡◌, ◌<◌, ◌+◌, ℕ, Bool, true, false, List, [], ◌∷◌, ◌++◌, ◌⊎◌, inl, inr, map, length, take, drop, Some, Result, Ok, Err, refl, sym, ap, subst, ◌∙◌, ◌==◌, ◌||◌, eq-eqb, eqb-true, get_or}
+use Rattle.std.proofs.Common.{◌≡◌, ◌<◌, ◌+◌, ℕ, Bool, true, false, List, [], ◌∷◌, ◌++◌, ◌⊎◌, inl, inr, map, length, take, drop, Some, Result, Ok, Err, refl, sym, ap, subst, ◌∙◌, ◌==◌, ◌||◌, eq-eqb, eqb-true, get_or, arith}
 use Rattle.std.specs.Prelude.{IfOk}
 use Rattle.std.specs.List.{All, Contains}
 use Rattle.std.proofs.lemmas.List.{map-append, take_more}
@@ -132,7 +132,7 @@ or_right false b h = h
 
 pub none_left : (rest : List ℕ) → (length rest == 0) ≡ true → rest ≡ []
 none_left [] h = refl
-none_left (r ∷ rest) h = absurd (cc)
+none_left (r ∷ rest) h = absurd (omega (arith, eqb-true (length (r ∷ rest)) 0 h))
 
 pub first_left : (rest : List ℕ) → (length rest == 0) ≡ false → rest ≡ get_or rest 0 0 ∷ drop 1 rest
 first_left [] h = absurd (cc)
@@ -141,6 +141,12 @@ first_left (r ∷ rest) h = refl
 pub rest_there : (rest : List ℕ) (q : ℕ) → contains (drop 1 rest) q ≡ true → contains rest q ≡ true
 rest_there [] q there = there
 rest_there (r ∷ rest) q there = or_right (r == q) (contains rest q) there
+
+pub shorter : (rest back : List ℕ) → back ≡ drop 1 rest → (length rest == 0) ≡ false → length back < length rest
+shorter [] back is left = absurd (cc)
+shorter (r ∷ rest) back is left =
+    let same : length back ≡ length rest = ap length is in
+    omega (arith, same)
 
 -- one choice more
 

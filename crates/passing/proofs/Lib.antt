@@ -4,7 +4,7 @@ pub mod Closed
 pub mod Deaf
 pub mod Written
 pub mod Evaluated
-pub mod Choices
+pub mod ChosenMoves
 pub mod Chosen
 pub mod Members
 pub mod Nobody

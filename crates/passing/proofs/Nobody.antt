@@ -1,5 +1,5 @@
 -- Where nobody sleeps, there is nothing to sleep through: whatever a register has, it may pass to anything.
-use Rattle.std.proofs.Common.{◌≡◌, ◌<◌, ℕ, true, List, [], ◌∷◌, length, refl, ◌==◌, get_or, arith}
+use Rattle.std.proofs.Common.{◌≡◌, ◌<◌, ℕ, true, List, [], ◌∷◌, length, refl, ◌==◌, eqb-true, get_or, arith}
 use Rattle.model.specs.Expressions.{Store}
 use Rattle.design.specs.Compiled.{Compiled}
 use Rattle.footprints.specs.Footprints.{RegisterChange}
@@ -9,7 +9,7 @@ use Rattle.settling.specs.declared.sleepers.Sleeper.{Sleeper}
 use Rattle.heldways.specs.Passing.{Passing, AllPass}
 use Rattle.passing.specs.SleepThroughNotes.{SleepThroughNotes}
 
-anything : Passing
+abbrev anything : Passing
 anything r old new = true
 
 all_anything : (cs : List RegisterChange) → AllPass anything cs
@@ -31,4 +31,4 @@ nobody_sleeps code network members cone values now notes [] none =
   where
     nothing : (k : ℕ) → k < 0 → ⊥
     nothing k within = omega (arith, within)
-nobody_sleeps code network members cone values now notes (x ∷ sleepers) none = absurd (cc)
+nobody_sleeps code network members cone values now notes (x ∷ sleepers) none = absurd (omega (arith, eqb-true (length (x ∷ sleepers)) 0 none))

@@ -71,8 +71,8 @@ fn give(store: &mut PlainStore, register: RegId, value: Bits) -> bool
 }
 
 // The value of a choice: the one before, or that after.
-fn value_chosen(choice: NotedChange, is_after: bool) -> Bits
-    ensures { result ≡ chosen_value is_after choice }
+fn value_chosen(choice: &NotedChange, is_after: bool) -> Bits
+    ensures { result ≡ chosen_value is_after choice.now }
 {
     if is_after {
         choice.after
@@ -88,7 +88,7 @@ fn give_chosen(store: &mut PlainStore, chosen: &[NotedChange], is_after: bool) -
 {
     for place in 0..chosen.len() {
         let choice = chosen[place];
-        let value = value_chosen(choice, is_after);
+        let value = value_chosen(&choice, is_after);
         if !give(store, choice.register, value) {
             return false;
         }

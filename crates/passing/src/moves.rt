@@ -35,8 +35,8 @@ fn leads(list: &[NotedChange], register: RegId, before: Bits, after: Bits) -> bo
 }
 
 // Whether there is a move through both of two moves, if the second goes on from the first.
-fn goes_on_by(list: &[NotedChange], one: NotedChange, other: NotedChange) -> bool
-    ensures { result ≡ true → LeadsThrough list.now one other }
+fn goes_on_by(list: &[NotedChange], one: &NotedChange, other: &NotedChange) -> bool
+    ensures { result ≡ true → LeadsThrough list.now one.now other.now }
 {
     if one.register != other.register {
         return true;
@@ -48,11 +48,11 @@ fn goes_on_by(list: &[NotedChange], one: NotedChange, other: NotedChange) -> boo
 }
 
 // Whether there is one through a move and each that goes on from it.
-fn goes_on(list: &[NotedChange], one: NotedChange) -> bool
-    ensures { result ≡ true → All (LeadsThrough list.now one) list.now }
+fn goes_on(list: &[NotedChange], one: &NotedChange) -> bool
+    ensures { result ≡ true → All (LeadsThrough list.now one.now) list.now }
 {
     for place in 0..list.len() {
-        if !goes_on_by(list, one, list[place]) {
+        if !goes_on_by(list, one, &list[place]) {
             return false;
         }
     }
@@ -64,7 +64,7 @@ fn are_closed(list: &[NotedChange]) -> bool
     ensures { result ≡ true → AllLeadThrough list.now }
 {
     for place in 0..list.len() {
-        if !goes_on(list, list[place]) {
+        if !goes_on(list, &list[place]) {
             return false;
         }
     }
@@ -87,7 +87,7 @@ impl TrackedMoves {
     }
 
     // Adds the moves through two moves, where one goes on from the other.
-    fn add_both(&mut self, one: NotedChange, other: NotedChange) -> Result<(), AllocError> {
+    fn add_both(&mut self, one: &NotedChange, other: &NotedChange) -> Result<(), AllocError> {
         if one.register != other.register {
             return Ok(());
         }
@@ -101,10 +101,10 @@ impl TrackedMoves {
     }
 
     // Adds what goes on from a move, and what it goes on from.
-    fn add_through(&mut self, own: NotedChange) -> Result<(), AllocError> {
+    fn add_through(&mut self, own: &NotedChange) -> Result<(), AllocError> {
         for place in 0..self.list.len() {
             if let Some(other) = self.list.get(place).copied() {
-                self.add_both(own, other)?;
+                self.add_both(own, &other)?;
             }
         }
         Ok(())
@@ -128,14 +128,15 @@ impl TrackedMoves {
         if !is_among(&self.tracked, change.register) {
             return Ok(true);
         }
+        let first = self.list.len();
         self.push(change.register, change.before, change.after)?;
-        for place in 0..MOST_MOVES {
+        for place in first..MOST_MOVES {
             if place >= self.list.len() {
                 return Ok(true);
             }
             let own = self.list[place];
-            self.add_through(own)?;
+            self.add_through(&own)?;
         }
-        Ok(false)
+        Ok(self.list.len() <= MOST_MOVES)
     }
 }

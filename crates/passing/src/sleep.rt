@@ -28,12 +28,19 @@ fn is_any_barred(moves: &TrackedMoves, changes: &[NotedChange]) -> bool
     changes.iter().any(|change| !moves.allow(change.register, change.before, change.after))
 }
 
+// Whether each change that a note has passes.
+fn note_passes(moves: &TrackedMoves, note: &StepNote) -> bool
+    ensures { result ≡ true → AllPass (passes_by moves.now) note.now.changes }
+{
+    !is_any_barred(moves, note.changes.as_slice())
+}
+
 // Whether each change that is noted passes.
 fn notes_pass(moves: &TrackedMoves, notes: &[StepNote]) -> bool
     ensures { result ≡ true → All (λ n. AllPass (passes_by moves.now) n.changes) notes.now }
 {
     for place in 0..notes.len() {
-        if is_any_barred(moves, notes[place].changes.as_slice()) {
+        if !note_passes(moves, &notes[place]) {
             return false;
         }
     }

@@ -2,7 +2,7 @@
 use Rattle.std.proofs.Common.{◌<◌, length, subst, arith, get_or}
 use Rattle.std.proofs.lemmas.List.{get_or_default}
 use Rattle.settling.proofs.Listed.{upto_more}
-use Rattle.passing.proofs.Choices.{AreChosenFrom, chosen_on}
+use Rattle.passing.proofs.ChosenMoves.{AreChosenFrom, chosen_on}
 use Rattle.passing.proofs.choices.add_all.Goals as goal
 
 pub loop-place-preserved : goal.loop-place-preserved

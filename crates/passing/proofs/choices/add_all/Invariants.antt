@@ -1,7 +1,7 @@
 -- The moves from the values that were looked at are there.
 use Rattle.std.proofs.Common.{◌<◌, ℕ, get_or}
 use Rattle.logic4.specs.Vector.{Vector}
-use Rattle.passing.proofs.Choices.{AreChosenFrom}
+use Rattle.passing.proofs.ChosenMoves.{AreChosenFrom}
 use Rattle.passing.proofs.choices.add_all.Given as goal
 
 abbrev pub invariant-loop-place : goal.invariant-loop-place

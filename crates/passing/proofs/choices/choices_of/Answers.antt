@@ -4,7 +4,7 @@ use Rattle.logic4.specs.Vector.{Vector}
 use Rattle.certificates.specs.declared.changes.NotedChange.{NotedChange}
 use Rattle.std.specs.List.{All}
 use Rattle.passing.specs.Moves.{HaveAfter}
-use Rattle.passing.proofs.Choices.{AreChosenFrom, choice_there}
+use Rattle.passing.proofs.ChosenMoves.{AreChosenFrom, choice_there}
 use Rattle.passing.proofs.choices.choices_of.Goals as goal
 
 pub returns : goal.returns

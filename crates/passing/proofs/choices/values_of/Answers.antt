@@ -8,8 +8,12 @@ use Rattle.certificates.specs.declared.changes.NotedChange.{NotedChange}
 use Rattle.settling.proofs.Listed.{upto_more}
 use Rattle.passing.proofs.choices.values_of.Goals as goal
 
-pub loop-place-init-clause-start : goal.loop-place-init-clause-start
-loop-place-init-clause-start c = subst (λ (vs : List Vector). Contains vs c.args.start) (sym c.in_ok-push.ensures.items) (Contains-push c.new-values.result.items c.args.start)
+pub loop-place-init : goal.loop-place-init
+loop-place-init c =
+    record {
+      start = subst (λ (vs : List Vector). Contains vs c.args.start) (sym c.in_ok-push.ensures.items) (Contains-push c.new-values.result.items c.args.start);
+      after = λ k d below. absurd (omega (arith, below));
+    }
 
 pub loop-place-preserved : goal.loop-place-preserved
 loop-place-preserved c =

@@ -10,22 +10,30 @@ use Rattle.settling.proofs.Listed.{upto_more}
 use Rattle.settling.proofs.Places.{element_at}
 use Rattle.passing.specs.Moves.{passes_by, move_of}
 use Rattle.passing.specs.Combinations.{PassFrom}
-use Rattle.passing.proofs.Chosen.{first_here, none_left, first_left, rest_there, rest_pass, then_pass}
+use Rattle.passing.proofs.Chosen.{first_here, none_left, first_left, rest_there, shorter, rest_pass, then_pass}
 use Rattle.passing.proofs.combinations.+rest_tested.Goals as goal
 
 -- where none is left, what was chosen is all
-pub rest_tested-returns-then-is_empty : goal.rest_tested-returns-then-is_empty
-rest_tested-returns-then-is_empty t c =
+pub returns-then-is_empty : goal.returns-then-is_empty
+returns-then-is_empty t c =
     let scope = c.args.scope in
     let From = PassFrom scope.design.now scope.place.now scope.values.now scope.time (passes_by scope.moves.now) c.args.chosen.now in
     then_pass c.chosen_tested.result (From []) (From c.args.rest.now) (λ pass. subst From (sym (none_left c.args.rest.now (sym c.is_empty.ensures ∙ c.if-is_empty.true))) pass) c.chosen_tested.ensures
 
-pub rest_tested-rest_tested-requires-clause-tracked : goal.rest_tested-rest_tested-requires-clause-tracked
-rest_tested-rest_tested-requires-clause-tracked t c = λ r there.
-    c.requires.tracked r (rest_there c.args.rest.now r (subst (λ (rs : List ℕ). contains rs r ≡ true) c.split_at.ensures.back there))
+pub rest_tested-requires : goal.rest_tested-requires
+rest_tested-requires t c = (
+  omega (arith, shorter c.args.rest.now _ c.split_at.ensures.back (sym c.is_empty.ensures ∙ c.if-is_empty.false)),
+  (
+    c.requires.time,
+    (
+      c.requires.widths,
+      λ r there. c.requires.tracked r (rest_there c.args.rest.now r (subst (λ (rs : List ℕ). contains rs r ≡ true) c.split_at.ensures.back there)),
+    ),
+  ),
+)
 
-pub rest_tested-loop-place-preserved : goal.rest_tested-loop-place-preserved
-rest_tested-loop-place-preserved t c =
+pub loop-place-preserved : goal.loop-place-preserved
+loop-place-preserved t c =
     let scope = c.args.scope in
     let choices = c.as_slice-choices.result.now in
     let i = c.loop-place.place in
@@ -38,10 +46,10 @@ rest_tested-loop-place-preserved t c =
     subst Is (get_or_default choices i choice d within)
     (subst Is c.index-choices-place.is
     (subst (λ (cs : List NotedChange). From cs (drop 1 c.args.rest.now)) (c.deref.ensures.value ∙ c.in_ok-longer.ensures)
-    (subst (λ (rs : List ℕ). From c.deref.result.now rs) c.split_at.ensures.back (c.in_ok-rest_tested.ensures c.in-Pass.is)))))
+    (subst (λ (rs : List ℕ). From c.deref.result.now rs) c.split_at.ensures.back (c.in_ok-other.ensures c.in-Pass.is)))))
 
-pub rest_tested-returns : goal.rest_tested-returns
-rest_tested-returns t c = λ on.
+pub returns : goal.returns
+returns t c = λ on.
     let scope = c.args.scope in
     let rest = c.args.rest.now in
     let passes = passes_by scope.moves.now in

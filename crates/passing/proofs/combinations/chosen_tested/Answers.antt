@@ -22,9 +22,9 @@ returns-in-Pass c =
     let after = c.give_chosen-2.new.store in
     let made = c.turn_tested.new.made in
     let first : PassesOn scope.design.now scope.place.now scope.time passes before values =
-    subst (λ (a : Store). PassesOn scope.design.now scope.place.now scope.time passes before a) c.in_ok-made.ensures (c.in_ok-turn_tested.ensures.passes c.in-Pass.is) in
+    subst (λ (a : Store). PassesOn scope.design.now scope.place.now scope.time passes before a) c.in_ok-made.ensures (c.in_ok-other.ensures.passes c.in-Pass.is) in
     let makes : MakesOn scope.design.now scope.place.now scope.time before values made =
-    subst (λ (a : Store). MakesOn scope.design.now scope.place.now scope.time before a made) c.in_ok-made.ensures (c.in_ok-turn_tested.ensures.made c.in-Pass.is) in
+    subst (λ (a : Store). MakesOn scope.design.now scope.place.now scope.time before a made) c.in_ok-made.ensures (c.in_ok-other.ensures.made c.in-Pass.is) in
     then_pass c.turn_tested-in-Pass.result (PassesOn scope.design.now scope.place.now scope.time passes after made) (PassFrom scope.design.now scope.place.now values scope.time passes c.args.chosen.now [])
     (λ second. chosen_pass scope.design.now scope.place.now values scope.time passes c.args.chosen.now before after made
     (c.give_chosen.ensures.count ∙ ap length c.in_ok-before.ensures) (c.give_chosen-2.ensures.count ∙ ap length c.in_ok-after.ensures)

@@ -13,7 +13,7 @@ set-requires-clause-declared c = slice_get_within c.args.store.now c.args.regist
 pub set-requires-clause-width : goal.set-requires-clause-width
 set-requires-clause-width c =
     let at : value_of c.args.store.now c.args.register ≡ c.in-Some.old = element_at c.args.store.now c.args.register c.in-Some.old [] (sym c.value.ensures ∙ c.in-Some.is) in
-    let same : length c.args.value ≡ length c.in-Some.old = omega (arith, c.width.ensures.value, c.width-2.ensures.value, c.if-width-width.false) in
+    let same : length c.args.value ≡ length c.in-Some.old = omega (arith, c.width.ensures.value, c.width-2.ensures.value, c.if-width.false) in
     same ∙ ap length (sym at)
 
 pub returns-clause-given : goal.returns-clause-given

@@ -1,13 +1,13 @@
 -- One value more, until all are given.
-use Rattle.std.proofs.Common.{◌<◌, ◌∙◌, List, length, subst, arith}
+use Rattle.std.proofs.Common.{refl, ◌<◌, ◌∙◌, List, length, subst, arith}
 use Rattle.std.proofs.lemmas.List.{take_all}
 use Rattle.certificates.specs.declared.changes.NotedChange.{NotedChange}
 use Rattle.passing.specs.Combinations.{AgreesWithChosen}
 use Rattle.passing.proofs.Chosen.{agrees_none, agrees_more}
 use Rattle.passing.proofs.combinations.give_chosen.Goals as goal
 
-pub loop-place-init-clause-agrees : goal.loop-place-init-clause-agrees
-loop-place-init-clause-agrees c = agrees_none c.args.is_after c.args.store.now
+pub loop-place-init : goal.loop-place-init
+loop-place-init c = record { agrees = agrees_none c.args.is_after c.args.store.now; count = refl }
 
 pub loop-place-preserved : goal.loop-place-preserved
 loop-place-preserved c =

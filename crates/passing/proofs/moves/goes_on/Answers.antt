@@ -10,7 +10,7 @@ loop-place-preserved c =
     let list = c.args.list.now in
     let i = c.loop-place.place in
     let within : i < length list = omega arith in
-    let Leads = LeadsThrough list c.args.one in
+    let Leads = LeadsThrough list c.args.one.now in
     upto_more Leads list i c.loop-place.invariant (λ d. subst Leads (get_or_default list i c.index-list-place.result d within) (subst Leads c.index-list-place.is (c.goes_on_by.ensures c.if-not-goes_on_by.false)))
 
 pub returns : goal.returns

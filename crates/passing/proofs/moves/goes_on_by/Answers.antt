@@ -7,7 +7,7 @@ pub returns-then-one-other : goal.returns-then-one-other
 returns-then-one-other c = λ on register next. absurd (c.if-one-other.true register)
 
 pub returns-then-ne : goal.returns-then-ne
-returns-then-ne c = λ on register next. absurd (differ_never c.args.one.after c.args.other.before (sym c.ne.ensures ∙ c.if-ne.true) next)
+returns-then-ne c = λ on register next. absurd (differ_never c.args.one.now.after c.args.other.now.before (sym c.ne.ensures ∙ c.if-ne.true) next)
 
 pub returns : goal.returns
 returns c = λ on register next. sym c.leads.ensures ∙ on

@@ -15,7 +15,7 @@ loop-process-preserved c =
     let i = c.loop-process.process-index in
     let within : i < length members = omega arith in
     let Is : ℕ → Type 0 = MemberPasses m.code held.network.now held.cone.now held.values.now (state_at m).time (passes_by c.args.moves.now) in
-    upto_more Is members i c.loop-process.invariant (λ d. subst Is (get_or_default members i 0 d within) (c.in_ok-member_tested.ensures c.in-Pass.is))
+    upto_more Is members i c.loop-process.invariant (λ d. subst Is (get_or_default members i 0 d within) (c.in_ok-other.ensures c.in-Pass.is))
 
 pub returns : goal.returns
 returns c = λ on p there.

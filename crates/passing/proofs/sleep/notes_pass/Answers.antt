@@ -1,12 +1,10 @@
 -- The changes of one note more.
-use Rattle.std.proofs.Common.{◌<◌, ◌∙◌, List, length, sym, subst, arith}
+use Rattle.std.proofs.Common.{◌<◌, length, subst, arith}
 use Rattle.std.proofs.lemmas.List.{get_or_default}
-use Rattle.footprints.specs.Footprints.{RegisterChange}
 use Rattle.certificates.specs.Notes.{NoteView}
 use Rattle.settling.proofs.Listed.{upto_more}
 use Rattle.heldways.specs.Passing.{AllPass}
 use Rattle.passing.specs.Moves.{passes_by}
-use Rattle.passing.proofs.Written.{none_barred}
 use Rattle.passing.proofs.sleep.notes_pass.Goals as goal
 
 pub loop-place-preserved : goal.loop-place-preserved
@@ -19,7 +17,7 @@ loop-place-preserved c =
     upto_more Is notes i c.loop-place.invariant
     (λ d.
     subst Is (get_or_default notes i c.index-notes-place.result d within)
-    (subst Is c.index-notes-place.is (subst (λ (cs : List RegisterChange). AllPass passes cs) c.as_slice.ensures (none_barred passes c.as_slice.result.now (sym c.is_any_barred.ensures ∙ c.if-is_any_barred.false)))))
+    (subst Is c.index-notes-place.is (c.note_passes.ensures c.if-not-note_passes.false)))
 
 pub returns : goal.returns
 returns c = λ on k d within. c.loop-place.invariant k d (omega (arith, within))
