@@ -10,8 +10,8 @@ use Rattle.loosewalks.proofs.held.start_of.Goals as goal
 use Rattle.regions.specs.Machine.{state_at}
 use Rattle.settling.specs.Settling.{AreSleepers}
 
-pub returns-in-Some : goal.returns-in-Some
-returns-in-Some c =
+pub returns : goal.returns
+returns c =
     let m = c.args.machine.now in
     let network = c.args.holding.scope.network.now in
     let held = c.args.holding.held.now in
