@@ -34,9 +34,9 @@ pub(crate) enum GoesOn {
 /// A turn that is gone along: its design, its log, its time, the values of the registers with its writes so far, and room for the log of its
 /// rest.
 #[derive(Drop)]
-pub(crate) struct Course<'a> {
-    pub(crate) design: &'a Design,
-    pub(crate) log: &'a TurnLog,
+pub(crate) struct Course<'d, 'l> {
+    pub(crate) design: &'d Design,
+    pub(crate) log: &'l TurnLog,
     now: u64,
     values: HeldValues,
     rest: TurnLog,
@@ -167,15 +167,15 @@ fn is_rest(rest: &TurnLog, whole: &TurnLog, done: Done) -> bool {
         && same_nbas(rest.nbas(), left_of(whole.nbas(), done.nbas))
 }
 
-impl<'a> Course<'a> {
+impl<'d, 'l> Course<'d, 'l> {
     /// The course of a turn, at this time and where the registers have these values. Fails where memory is refused.
     pub(crate) fn of(
         alloc: Global,
-        design: &'a Design,
-        log: &'a TurnLog,
+        design: &'d Design,
+        log: &'l TurnLog,
         now: u64,
         values: &[Bits],
-    ) -> Result<Course<'a>, AllocError> {
+    ) -> Result<Course<'d, 'l>, AllocError> {
         let values = HeldValues::of(alloc, values)?;
         Ok(Course {
             design,
@@ -188,11 +188,12 @@ impl<'a> Course<'a> {
     }
 
     /// Behind what an earlier turn left over for this one, if it did.
-    pub(crate) fn begun(&mut self, state: ProcState) -> Done {
+    pub(crate) fn begun(&mut self, state: &ProcState) -> Done {
         let done = Done::at(state.place);
-        match state.pending {
-            Some(_) => self.written(done.on(state.place)),
-            None => done,
+        if state.pending.is_some() {
+            self.written(done.on(state.place))
+        } else {
+            done
         }
     }
 

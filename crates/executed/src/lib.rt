@@ -10,8 +10,8 @@
 //! 4. `statements` numbers the nodes that were marked among those of the process that do so, which are as many as the tokens of its
 //!    text that do.
 //!
-//! What the layer above uses: `statements_run`. That the statements ran no clause says: it is looked for, for people, and the lines that
-//! are told are those of statements of the process that do so, whatever is found.
+//! What the layer above uses: `statements_run`. Each number is that of a node of the process that does what its role says (`specs/RunNumbers`). That
+//! the node ran no clause says: it is looked for, for people.
 #![tactic(auto)]
 
 mod course;

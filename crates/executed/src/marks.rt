@@ -4,23 +4,11 @@ use crate::course::{Course, Done, GoesOn};
 use crate::deed::{Deed, times_done};
 use design::code::Node;
 use design::{Design, ProcState, RegId};
-use logic4::bits::Bits;
 use std::alloc::{AllocError, Global};
 use turn::{Suspend, TurnLog};
 
 // The most nodes of a turn.
 const MOST_STEPS: u32 = 65_536;
-
-/// A turn in which statements are looked for: where its process went on, its log, its time, the values of the registers before it, and, where
-/// only one of its nonblocking assignments is meant, which.
-#[derive(Clone, Copy)]
-pub(crate) struct SoughtTurn<'a> {
-    pub(crate) state: ProcState,
-    pub(crate) log: &'a TurnLog,
-    pub(crate) time: u64,
-    pub(crate) values: &'a [Bits],
-    pub(crate) nba: Option<usize>,
-}
 
 /// Whether nodes did what is looked for, by their places.
 #[derive(Drop)]
@@ -45,6 +33,14 @@ fn leaves_over(node: &Node, register: RegId, place: usize) -> bool {
             ..
         } => *to == register && *next == place,
         _ => false,
+    }
+}
+
+// The register to which an earlier turn left an assignment over, if it did.
+fn left_over(state: &ProcState) -> Option<RegId> {
+    match state.pending {
+        Some((register, _)) => Some(register),
+        None => None,
     }
 }
 
@@ -101,9 +97,9 @@ impl StatementMarks {
     }
 
     // Marks what an earlier turn left over, where it is a write that is looked for.
-    fn mark_pending(&mut self, design: &Design, state: ProcState, deed: Deed) {
-        match (state.pending, deed) {
-            (Some((left, _)), Deed::Writes(register)) => {
+    fn mark_pending(&mut self, design: &Design, state: &ProcState, deed: Deed) {
+        match (left_over(state), deed) {
+            (Some(left), Deed::Writes(register)) => {
                 if left == register {
                     self.mark_left_over(design, register, state.place);
                 }
@@ -167,29 +163,41 @@ impl StatementMarks {
         }
     }
 
-    // Goes along a turn, and marks its nodes that did what is looked for. The answer is whether its course is known as far as need be. Fails
+    // Marks the node where a turn stands, if it did what is looked for. The answer is where the turn goes on, as far as more is looked for. Fails
     // where memory is refused.
-    fn mark_course(
+    fn mark_step(
         &mut self,
-        alloc: Global,
-        design: &Design,
-        sought: SoughtTurn<'_>,
+        course: &mut Course<'_, '_>,
         deed: Deed,
+        nba: Option<usize>,
+        done: Done,
+    ) -> Result<GoesOn, AllocError> {
+        if is_over(course.log, done, deed) {
+            return Ok(GoesOn::Nowhere);
+        }
+        let design = course.design;
+        let node = match design.nodes().get(done.place) {
+            Some(node) => *node,
+            None => return Ok(GoesOn::Nowhere),
+        };
+        if self.mark_node(design, &node, done, deed, nba) {
+            return Ok(GoesOn::Nowhere);
+        }
+        course.behind(&node, done)
+    }
+
+    // Goes along a turn from where it begins, and marks its nodes that did what is looked for. The answer is whether its course is known as far as
+    // need be. Fails where memory is refused.
+    fn mark_along(
+        &mut self,
+        course: &mut Course<'_, '_>,
+        deed: Deed,
+        nba: Option<usize>,
+        begun: Done,
     ) -> Result<bool, AllocError> {
-        let mut course = Course::of(alloc, design, sought.log, sought.time, sought.values)?;
-        let mut done = course.begun(sought.state);
+        let mut done = begun;
         for _ in 0..MOST_STEPS {
-            if is_over(sought.log, done, deed) {
-                return Ok(true);
-            }
-            let node = match design.nodes().get(done.place) {
-                Some(node) => *node,
-                None => return Ok(true),
-            };
-            if self.mark_node(design, &node, done, deed, sought.nba) {
-                return Ok(true);
-            }
-            match course.behind(&node, done)? {
+            match self.mark_step(course, deed, nba, done)? {
                 GoesOn::At(next) => done = next,
                 GoesOn::Nowhere => return Ok(true),
                 GoesOn::Unknown => return Ok(false),
@@ -198,23 +206,24 @@ impl StatementMarks {
         Ok(false)
     }
 
-    /// Marks the nodes of a turn that did what is looked for. The answer is whether its course is known as far as need be. Fails where
-    /// memory is refused.
+    /// Marks the nodes of a turn of a process that went on in this state which did what is looked for, of nonblocking assignments those that are
+    /// meant. The answer is whether its course is known as far as need be. Fails where memory is refused.
     pub(crate) fn mark_turn(
         &mut self,
-        alloc: Global,
-        design: &Design,
-        sought: SoughtTurn<'_>,
+        course: &mut Course<'_, '_>,
+        state: &ProcState,
         deed: Deed,
+        nba: Option<usize>,
     ) -> Result<bool, AllocError> {
         match deed {
             Deed::Waits(_) => {
-                self.mark_wait(design, sought.log.suspend());
+                self.mark_wait(course.design, course.log.suspend());
                 return Ok(true);
             }
             _ => {}
         }
-        self.mark_pending(design, sought.state, deed);
-        self.mark_course(alloc, design, sought, deed)
+        self.mark_pending(course.design, state, deed);
+        let begun = course.begun(state);
+        self.mark_along(course, deed, nba, begun)
     }
 }

@@ -1,9 +1,11 @@
 //! The turns of a journal in which statements are looked for.
 
+use crate::course::Course;
 use crate::deed::Deed;
-use crate::marks::{SoughtTurn, StatementMarks};
+use crate::marks::StatementMarks;
 use crate::statements::StatementSearch;
 use design::{ProcState, RegId};
+use logic4::bits::Bits;
 use model::entry::Entry;
 use regions::{Due, Machine, State, Update};
 use std::alloc::{AllocError, Global};
@@ -93,19 +95,19 @@ fn update_of(machine: &Machine<'_>, entry: Entry, register: RegId) -> Option<u64
 // The most updates of a register at one time that are looked at.
 const MOST_UPDATES: usize = 8;
 
-/// The events of the first updates of a register at a race's time in its journal. Fails where memory is refused.
-pub(crate) fn updates_at(
+// The events of the first updates of a register at a race's time, which a machine takes along its journal.
+fn updates_along(
+    machine: &mut Machine<'_>,
     search: StatementSearch<'_>,
     register: RegId,
 ) -> Result<Vec<u64>, AllocError> {
-    let mut machine = Machine::start(search.alloc, search.design)?;
     let mut updates = Vec::new(search.alloc);
     for entry in search.journal {
         if machine.time() > search.time || updates.len() >= MOST_UPDATES {
             return Ok(updates);
         }
         if machine.time() == search.time {
-            match update_of(&machine, *entry, register) {
+            match update_of(machine, *entry, register) {
                 Some(update) => updates.push(update)?,
                 None => {}
             }
@@ -117,26 +119,24 @@ pub(crate) fn updates_at(
     Ok(updates)
 }
 
+/// The events of the first updates of a register at a race's time in its journal. Fails where memory is refused.
+pub(crate) fn updates_at(
+    search: StatementSearch<'_>,
+    register: RegId,
+) -> Result<Vec<u64>, AllocError> {
+    let mut machine = Machine::start(search.alloc, search.design)?;
+    let updates = updates_along(&mut machine, search, register);
+    drop(machine);
+    updates
+}
+
 /// A machine that is led along a journal to the turns of a process that may have done what is looked for, and the marks of the nodes that did.
 #[derive(Drop)]
 pub(crate) struct TurnFinder<'a> {
     search: StatementSearch<'a>,
     sought: TurnSearch,
     machine: Machine<'a>,
-    log: TurnLog,
     pub(crate) marks: StatementMarks,
-    /// The place of the first node of each process.
-    pub(crate) starts: Vec<usize>,
-}
-
-// Where the processes stand, by their numbers.
-fn places_of(alloc: Global, state: &State) -> Result<Vec<usize>, AllocError> {
-    let processes = state.processes();
-    let mut places = Vec::new(alloc);
-    for at in 0..processes.len() {
-        places.push(processes[at].state.place)?;
-    }
-    Ok(places)
 }
 
 impl<'a> TurnFinder<'a> {
@@ -147,14 +147,11 @@ impl<'a> TurnFinder<'a> {
     ) -> Result<TurnFinder<'a>, AllocError> {
         let marks = StatementMarks::new(search.alloc, search.design)?;
         let machine = Machine::start(search.alloc, search.design)?;
-        let starts = places_of(search.alloc, machine.state())?;
         Ok(TurnFinder {
             search,
             sought,
             machine,
-            log: TurnLog::new(search.alloc),
             marks,
-            starts,
         })
     }
 
@@ -185,10 +182,32 @@ impl<'a> TurnFinder<'a> {
         Some(count.saturating_sub(1).saturating_sub(behind as usize))
     }
 
+    // Marks the nodes by which a turn that was taken, and this is its log, did what is looked for. The answer is whether that is known. Fails where
+    // memory is refused.
+    fn mark_taken(
+        &mut self,
+        log: &TurnLog,
+        state: ProcState,
+        time: u64,
+        values: &[Bits],
+    ) -> Result<bool, AllocError> {
+        let nba = self.nba_number(log.nbas().len());
+        let deed = self.sought.deed;
+        let mut course = Course::of(self.search.alloc, self.search.design, log, time, values)?;
+        let known = self.marks.mark_turn(&mut course, &state, deed, nba);
+        drop(course);
+        known
+    }
+
     // Takes a turn of the process, and marks the nodes by which it did what is looked for, if it did. The answer is whether that is known.
     // Fails where memory is refused.
-    fn take_candidate(&mut self, number: u64, state: ProcState) -> Result<bool, AllocError> {
-        if self.machine.evaluate(&mut self.log, number, 0).is_err() {
+    fn take_candidate(
+        &mut self,
+        log: &mut TurnLog,
+        number: u64,
+        state: ProcState,
+    ) -> Result<bool, AllocError> {
+        if self.machine.evaluate(log, number, 0).is_err() {
             return Ok(false);
         }
         let mut values = Vec::new(self.search.alloc);
@@ -201,41 +220,37 @@ impl<'a> TurnFinder<'a> {
         if self.sought.update.is_some() && (had || !self.has_sought()) {
             return Ok(true);
         }
-        let turn = SoughtTurn {
-            state,
-            log: &self.log,
-            time,
-            values: values.as_slice(),
-            nba: self.nba_number(self.log.nbas().len()),
-        };
-        self.marks.mark_turn(
-            self.search.alloc,
-            self.search.design,
-            turn,
-            self.sought.deed,
-        )
+        self.mark_taken(log, state, time, values.as_slice())
     }
 
     // Takes an entry. The answer is whether it was taken, and what it did of what is looked for is known. Fails where memory is refused.
-    fn take(&mut self, entry: Entry) -> Result<bool, AllocError> {
+    fn take(&mut self, log: &mut TurnLog, entry: Entry) -> Result<bool, AllocError> {
         match self.candidate(entry) {
-            Some((number, state)) => self.take_candidate(number, state),
+            Some((number, state)) => self.take_candidate(log, number, state),
             None => Ok(self.machine.take(entry).is_ok()),
         }
     }
 
-    /// Goes along the journal up to the race's time. The answer is whether what its turns did of what is looked for is known. Fails where
-    /// memory is refused.
-    pub(crate) fn go(&mut self) -> Result<bool, AllocError> {
+    // Goes along the journal up to the race's time, with a log for its turns.
+    fn go_along(&mut self, log: &mut TurnLog) -> Result<bool, AllocError> {
         let journal = self.search.journal;
         for entry in journal {
             if self.machine.time() > self.search.time {
                 return Ok(true);
             }
-            if !self.take(*entry)? {
+            if !self.take(log, *entry)? {
                 return Ok(false);
             }
         }
         Ok(true)
+    }
+
+    /// Goes along the journal up to the race's time. The answer is whether what its turns did of what is looked for is known. Fails where
+    /// memory is refused.
+    pub(crate) fn go(&mut self) -> Result<bool, AllocError> {
+        let mut log = TurnLog::new(self.search.alloc);
+        let known = self.go_along(&mut log);
+        drop(log);
+        known
     }
 }

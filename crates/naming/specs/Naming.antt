@@ -1,10 +1,11 @@
 -- Races that are told in lines.
-use Rattle.std.specs.Prelude.{◌≡◌, ℕ, ◌+◌, Bool, IsTrue, not, List, [], ◌∷◌, ◌++◌, drop, length, map, take, Option, Some, None, slice_get, string_bytes}
+use Rattle.std.specs.Prelude.{◌≡◌, ℕ, ◌+◌, Bool, IsTrue, not, List, [], ◌∷◌, ◌++◌, drop, length, map, take, Option, Some, None, IfSome, slice_get, string_bytes}
 use Rattle.std.specs.List.{All, filter}
 use Rattle.model.specs.declared.entry.Entry.{Entry}
 use Rattle.model.specs.declared.end.End.{End}
 use Rattle.design.specs.Compiled.{Compiled}
 use Rattle.executed.specs.declared.statements.RunStatements.{RunStatements}
+use Rattle.executed.specs.RunNumbers.{AreStatementsOfRole}
 use Rattle.explore.specs.declared.Shown.{Shown}
 use Rattle.runs.specs.declared.run.RunRecord.{RunRecord}
 use Rattle.causes.specs.declared.parting_race.PartingRace.{PartingRace}
@@ -16,6 +17,7 @@ use Rattle.conflicts.specs.declared.bounds.Bound.{Bound}
 use Rattle.races.specs.declared.told.Found.{Found}
 use Rattle.conflicts.specs.declared.bounds.RaceBounds.{RaceBounds}
 use Rattle.accesses.specs.declared.role.Role as found_role
+use Rattle.accesses.specs.declared.role.Site.{Site}
 use Rattle.verdict.specs.VerdictLines.{IsFirstDifference, HaveSameLines}
 use Rattle.verdict.specs.declared.race.RaceDescription.{RaceDescription}
 use Rattle.verdict.specs.declared.race.RoleDescription.{RoleDescription}
@@ -35,21 +37,23 @@ use Rattle.naming.specs.UnseenRegisters.{unseen_text}
 use Rattle.naming.specs.RaceWords.{cut_of, IsSiteTold}
 use Rattle.naming.specs.RoleWords.{role_words}
 
--- a process is told by its number, where it begins, and what it does at this site, in words and with the lines of statements of it that do so: of those that were found to
--- have run, or else those between which all stand, where they are known
-pub record IsRoleTold (places : SourcePlaces) (site : SiteDescription) (role : found_role.Role) (told : RoleDescription) : Type 0 where
+-- A process is told by its number, where it begins, and what it does at this site, in words and with the lines of statements of it that do so: of those that were found, each of which
+-- has a node that does so, or else those between which all stand, where they are known.
+pub record IsRoleTold (places : SourcePlaces) (code : Compiled) (raced : Site) (site : SiteDescription) (role : found_role.Role) (told : RoleDescription) : Type 0 where
   pub number : told.number ≡ role.process
   pub begin : told.begins ≡ begin_of places.processes.now role.process
-  -- the statements by which it did so, as they were found, if they were
-  pub run : Option RunStatements
-  pub does : told.does.now ≡ role_words places site role run
+  pub found : Option RunStatements
+  pub found_so : IfSome found (AreStatementsOfRole code raced role)
+  pub does : told.does.now ≡ role_words places site role found
 
 -- A race is so in words: what it is for, and what its two processes do.
 pub record AreWordsOf (places : SourcePlaces) (code : Compiled) (race : found_race.Race) (words : RaceWords) : Type 0 where
   pub site_is : IsSiteTold code race.site words.site
   pub first_run : Option RunStatements
+  pub first_so : IfSome first_run (AreStatementsOfRole code race.site race.first)
   pub first_is : words.first.now ≡ role_words places words.site race.first first_run
   pub second_run : Option RunStatements
+  pub second_so : IfSome second_run (AreStatementsOfRole code race.site race.second)
   pub second_is : words.second.now ≡ role_words places words.site race.second second_run
 
 -- the first line in which two texts differ, or none where they have the same lines
@@ -75,8 +79,8 @@ pub record IsRaceTold (places : SourcePlaces) (code : Compiled) (shown : List (S
   pub number_is : told.number ≡ number
   pub site : IsSiteTold code race.site told.site
   pub time_is : told.time ≡ race.time
-  pub first : IsRoleTold places told.site race.first told.first
-  pub second : IsRoleTold places told.site race.second told.second
+  pub first : IsRoleTold places code race.site told.site race.first told.first
+  pub second : IsRoleTold places code race.site told.site race.second told.second
   pub prefix_is : prefix_of told ≡ prefix
   pub difference : IsDifferenceTold (string_bytes original.lines) (string_bytes race.exchanged.lines) told.line told.original.line.now told.exchanged.line.now
   pub one : IsRunTold shown original told.original

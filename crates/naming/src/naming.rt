@@ -1,5 +1,6 @@
 //! Races that were found, told in lines.
-ghost use Rattle.std.specs.Prelude.{◌≡◌, ◌↔◌, ◌≤◌, ◌<◌, ◌+◌, ◌++◌, ◌∷◌, [], length, map, IfOk, IsTrue, OnOk, option_map, string_bytes};
+ghost use Rattle.std.specs.Prelude.{◌≡◌, ◌↔◌, ◌≤◌, ◌<◌, ◌+◌, ◌++◌, ◌∷◌, [], length, map, IfOk, IfSome, IsTrue, OnOk, option_map, string_bytes};
+ghost use Rattle.executed.specs.RunNumbers.{AreStatementsOfRole};
 ghost use Rattle.naming.specs.Begins.{AreProcessesOf, begin_of};
 ghost use Rattle.naming.specs.LineOrders.{orders_text};
 ghost use Rattle.naming.specs.Naming.{AddsOrder, AreWordsOf, HasJournal, IsDifferenceTold, IsJournalTold, IsOrderOf, IsRaceTold, TellsBehind, TellsMoreBehind, TellsAlone, TellsNumbered, TellsSome, list_end_text, numbered_races, parting_of, unnamed_lines};
@@ -270,7 +271,9 @@ fn run_of(
     original: &RunRecord,
     race: &Race,
     role: accesses::Role,
-) -> Result<Option<RunStatements>, AllocError> {
+) -> Result<Option<RunStatements>, AllocError>
+    ensures { IfOk result (λ found. IfSome found (AreStatementsOfRole design.now race.now.site role)) }
+{
     if !has_several_lines(places, site, role) {
         return Ok(None);
     }
@@ -288,7 +291,9 @@ fn run_in(
     run: &RunRecord,
     race: &Race,
     role: accesses::Role,
-) -> Result<Option<RunStatements>, AllocError> {
+) -> Result<Option<RunStatements>, AllocError>
+    ensures { IfOk result (λ found. IfSome found (AreStatementsOfRole design.now race.now.site role)) }
+{
     let search = StatementSearch {
         alloc,
         design,

@@ -37,15 +37,13 @@ fn processes_in(alloc: Global, evaluations: &VecDeque<Evaluation>) -> Result<Vec
     Ok(processes)
 }
 
-/// The choice behind a journal. None where the journal isn't taken. Fails where memory is refused.
-fn choice_behind(
+/// The choice where a machine stands behind a journal. None where it doesn't take that. Fails where memory is refused.
+fn choice_led(
     alloc: Global,
-    design: &Design,
+    machine: &mut Machine<'_>,
     journal: &[Entry],
 ) -> Result<Option<OpenChoice>, AllocError> {
-    let start = Machine::start(alloc, design)?;
-    let mut machine = Box::new(alloc, start)?;
-    if !lead(&mut machine, journal)? {
+    if !lead(machine, journal)? {
         return Ok(None);
     }
     let (_, evaluations) = machine.state().active();
@@ -54,6 +52,18 @@ fn choice_behind(
         time: machine.time(),
         processes,
     }))
+}
+
+/// The choice behind a journal. None where the journal isn't taken. Fails where memory is refused.
+fn choice_behind(
+    alloc: Global,
+    design: &Design,
+    journal: &[Entry],
+) -> Result<Option<OpenChoice>, AllocError> {
+    let mut machine = Machine::start(alloc, design)?;
+    let choice = choice_led(alloc, &mut machine, journal);
+    drop(machine);
+    choice
 }
 
 /// The choice behind a journal, if there is one. Fails where memory is refused.

@@ -18,6 +18,7 @@ use Rattle.causes.specs.Causes.{AreCauses, HasAnswer}
 use Rattle.causes.specs.declared.causes.Causes.{Causes}
 use Rattle.causes.specs.declared.parting_race.PartingRace.{PartingRace}
 use Rattle.naming.specs.Naming.{TellsBehind, TellsMore, TellsMoreBehind, TellsRaces}
+use Rattle.naming.specs.SearchReach.{TellsReach}
 use Rattle.verdict.specs.Verdicts.{verdict_text}
 use Rattle.verdict.specs.declared.endings.RunEndings.{RunEndings}
 use Rattle.verdict.specs.declared.stops.StopDescription.{StopDescription}
@@ -33,7 +34,7 @@ use Rattle.program.specs.declared.fault.CommandFault.{CommandFault}
 use Rattle.program.specs.Findings.{AreFound, AreOfSeeds, AreRacesKnown, IsFound, IsLawfulShown, IsClaimWithin, HaveSomeEnds, OnEvery, OnSampled, claim_of, endless_number, endings_of, finding_of, first_text, have_stops, journals_of, limits_in, search_stop_of, stops_from, unless_stopped, until_line}
 use Rattle.program.specs.declared.racing.NamedRaces.{NamedRaces}
 use Rattle.program.specs.declared.racing.ToldRaces.{ToldRaces}
-use Rattle.program.specs.Printed.{HasFound, HasLeft, HasShown, IsSaidLast, IsToldFirst, IsToldLast, IsToldMore}
+use Rattle.program.specs.Printed.{HasFound, HasLeft, HasShown, IsReachTold, IsSaidLast, IsToldFirst, IsToldLast, IsToldMore}
 use Rattle.program.specs.Program.{status_of}
 use Rattle.program.proofs.Knowing.{all_of_each, few_shown, races_still}
 use Rattle.program.proofs.Ended.{all_saved_on, appends_then, some_saved_on}
@@ -179,8 +180,9 @@ tells_more_alone source code shown prefix race_bounds found before causes empty 
 pub record IsToldBehind (source : List ℕ) (code : Compiled) (search_options : SearchOptions) (prefix : Option (List ℕ)) (races : NamedRaces) (claim : Claim) (shown : List (Shown Entry End)) (last : List ℕ) : Type 0 where
   pub more : List ℕ
   pub is_more : IsToldMore source code search_options prefix races shown more
+  pub before : Option ℕ
   pub said : List ℕ
-  pub is_said : IsSaidLast source search_options prefix races.found.original.end claim shown said
+  pub is_said : IsSaidLast source search_options prefix races.found.original.end claim before shown said
   pub last_is : last ≡ more ++ said
 
 -- what was told before a search of the races that part texts
@@ -192,15 +194,31 @@ pub early_answered : (source : List ℕ) (code : Compiled) (search_options : Sea
     → 1 < early.races.texts → HasAnswer early.races.found early.races.causes
 early_answered source code search_options prefix early a b (first, is_first, begins) many = is_first.answered (subst (λ (n : ℕ). 1 < n) is_first.texts many)
 
-pub told_behind : (source : List ℕ) (code : Compiled) (search_options : SearchOptions) (prefix : Option (List ℕ)) (races : NamedRaces) (claim : Claim) (shown texts : List (Shown Entry End)) (more said lines last : List ℕ) → texts ≡ shown
-    → IsToldMore source code search_options prefix races texts more → IsSaidLast source search_options prefix races.found.original.end claim shown said → lines ≡ said → last ≡ more ++ lines → IsToldBehind source code search_options prefix races claim shown last
-told_behind source code search_options prefix races claim shown texts more said lines last same told is_said are is = record {
+pub told_behind : (source : List ℕ) (code : Compiled) (search_options : SearchOptions) (prefix : Option (List ℕ)) (races : NamedRaces) (claim : Claim) (before : Option ℕ) (shown texts : List (Shown Entry End)) (more said lines last : List ℕ) → texts ≡ shown
+    → IsToldMore source code search_options prefix races texts more → IsSaidLast source search_options prefix races.found.original.end claim before shown said → lines ≡ said → last ≡ more ++ lines → IsToldBehind source code search_options prefix races claim shown last
+told_behind source code search_options prefix races claim before shown texts more said lines last same told is_said are is = record {
   more = more;
   is_more = subst (λ (ss : List (Shown Entry End)). IsToldMore source code search_options prefix races ss more) same told;
+  before = before;
   said = said;
   is_said = is_said;
   last_is = is ∙ ap (λ l. more ++ l) are;
 }
+
+-- where no limit was met, nothing is told of how far a search came
+pub reach_untold : (source : List ℕ) (met found : Bool) (before : Option ℕ) (lines : List ℕ) → found ≡ met → found ≡ false → lines ≡ [] → IsReachTold source met before lines
+reach_untold source met found before lines is not none = subst (λ (b : Bool). IsReachTold source b before lines) (sym not ∙ is) none
+
+-- nor is it where no time is known before which all orders were followed
+pub reach_unknown : (source : List ℕ) (met : Bool) (before : Option ℕ) (lines : List ℕ) → before ≡ None → lines ≡ [] → IsReachTold source met before lines
+reach_unknown source true before lines is none = subst (λ (o : Option ℕ). IsReachTold source true o lines) (sym is) none
+reach_unknown source false before lines is none = none
+
+-- else it is
+pub reach_told : (source : List ℕ) (met found : Bool) (before : Option ℕ) (time : ℕ) (empty lines : List ℕ) → found ≡ met → found ≡ true → before ≡ Some time → empty ≡ [] → TellsReach source time empty lines → IsReachTold source met before lines
+reach_told source met found before time empty lines is met_it known none told =
+    subst (λ (b : Bool). IsReachTold source b before lines) (sym met_it ∙ is)
+    (subst (λ (o : Option ℕ). IsReachTold source true o lines) (sym known) (subst (λ (l : List ℕ). TellsReach source time l lines) none told))
 
 -- what is said of texts behind a search
 pub told_last : (search_options : SearchOptions) (prefix : Option (List ℕ)) (end : End) (claim : Claim) (texts shown : List (Shown Entry End)) (ends : Bool) (endings : RunEndings) (first : List ℕ) (stops : List StopDescription) (empty middle line last : List ℕ) → shown ≡ texts → HaveSomeEnds shown ends
@@ -230,6 +248,7 @@ found_behind source code search_options prefix early claim shown endless last ar
   races_known = races_still search_options.max_texts early.races.found early.known.items shown grown are_found.few known;
   more = is_last.more;
   is_more = is_last.is_more;
+  before = is_last.before;
   said = is_last.said;
   is_said = is_last.is_said;
   last_is = is_last.last_is;

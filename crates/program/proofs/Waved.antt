@@ -148,38 +148,39 @@ waves_found items code search_options registers observe seen_registers s t nodes
 
 -- what was said of waves, where the files were the same before it
 
-pub said_waves : (code : Compiled) (asked : Observed) (search_options : SearchOptions) (prefix : Option (List ℕ)) (registers : List ℕ) (claim : Claim) (waves : List (Shown Entry End)) (endless : Option (List Entry)) (said : List ℕ) (old new : Option (List ℕ))
-    → AreRegistersOf code asked registers → AreFoundWaves code search_options registers claim waves endless → AreWavesSaid code asked registers search_options prefix claim waves said → Appends old new said → HasSaidWaves code asked search_options prefix old new
-said_waves code asked search_options prefix registers claim waves endless said old new are found told printed = record {
+pub said_waves : (code : Compiled) (asked : Observed) (search_options : SearchOptions) (prefix : Option (List ℕ)) (registers : List ℕ) (claim : Claim) (followed : Option ℕ) (waves : List (Shown Entry End)) (endless : Option (List Entry)) (said : List ℕ) (old new : Option (List ℕ))
+    → AreRegistersOf code asked registers → AreFoundWaves code search_options registers claim waves endless → AreWavesSaid code asked registers search_options prefix claim followed waves said → Appends old new said → HasSaidWaves code asked search_options prefix old new
+said_waves code asked search_options prefix registers claim followed waves endless said old new are found told printed = record {
   registers = registers;
   are_registers = are;
   claim = claim;
   waves = waves;
   endless = endless;
   are_found = found;
+  followed = followed;
   said = said;
   are_said = told;
   printed = printed;
 }
 
-pub found_waves : (code : Compiled) (asked : Observed) (search_options : SearchOptions) (prefix : Option (List ℕ)) (registers : List ℕ) (claim : Claim) (waves : List (Shown Entry End)) (endless : Option (List Entry)) (said : List ℕ) (old new : Option (List ℕ)) (a b c : Option (List MadeFile)) (f : SearchFinding)
-    → AreRegistersOf code asked registers → AreFoundWaves code search_options registers claim waves endless → AreWavesSaid code asked registers search_options prefix claim waves said → Appends old new said → KeepsFiles a b → SavesAllWhereAsked b c prefix (journals_of waves endless)
+pub found_waves : (code : Compiled) (asked : Observed) (search_options : SearchOptions) (prefix : Option (List ℕ)) (registers : List ℕ) (claim : Claim) (followed : Option ℕ) (waves : List (Shown Entry End)) (endless : Option (List Entry)) (said : List ℕ) (old new : Option (List ℕ)) (a b c : Option (List MadeFile)) (f : SearchFinding)
+    → AreRegistersOf code asked registers → AreFoundWaves code search_options registers claim waves endless → AreWavesSaid code asked registers search_options prefix claim followed waves said → Appends old new said → KeepsFiles a b → SavesAllWhereAsked b c prefix (journals_of waves endless)
     → f ≡ finding_of claim (length waves) (have_stops waves) false → HasFoundWaves code asked search_options prefix old new a c f
 unfolding said_waves
-found_waves code asked search_options prefix registers claim waves endless said old new a b c f are found told printed before saved is = record {
-  has_said = said_waves code asked search_options prefix registers claim waves endless said old new are found told printed;
+found_waves code asked search_options prefix registers claim followed waves endless said old new a b c f are found told printed before saved is = record {
+  has_said = said_waves code asked search_options prefix registers claim followed waves endless said old new are found told printed;
   saved = all_saved_on a b c prefix (journals_of waves endless) before saved;
   finding = is;
 }
 
 -- what is left where a search for waves ended for want of memory
-pub left_waves : (code : Compiled) (asked : Observed) (search_options : SearchOptions) (prefix : Option (List ℕ)) (registers : List ℕ) (claim : Claim) (waves : List (Shown Entry End)) (endless : Option (List Entry)) (said : List ℕ) (old new : Option (List ℕ)) (a b c : Option (List MadeFile))
-    → AreRegistersOf code asked registers → AreFoundWaves code search_options registers claim waves endless → AreWavesSaid code asked registers search_options prefix claim waves said → KeepsFiles a b
+pub left_waves : (code : Compiled) (asked : Observed) (search_options : SearchOptions) (prefix : Option (List ℕ)) (registers : List ℕ) (claim : Claim) (followed : Option ℕ) (waves : List (Shown Entry End)) (endless : Option (List Entry)) (said : List ℕ) (old new : Option (List ℕ)) (a b c : Option (List MadeFile))
+    → AreRegistersOf code asked registers → AreFoundWaves code search_options registers claim waves endless → AreWavesSaid code asked registers search_options prefix claim followed waves said → KeepsFiles a b
     → (Keeps old new × KeepsFiles b c) ⊎ (Appends old new said × SavesSomeWhereAsked b c prefix (journals_of waves endless)) → AreUntouched old new a c ⊎ HasSavedWaves code asked search_options prefix old new a c
 unfolding said_waves
-left_waves code asked search_options prefix registers claim waves endless said old new a b c are found told before (inl (same, files)) = inl (same, kept_on a b c before files)
-left_waves code asked search_options prefix registers claim waves endless said old new a b c are found told before (inr (printed, saved)) = inr (record {
-  has_said = said_waves code asked search_options prefix registers claim waves endless said old new are found told printed;
+left_waves code asked search_options prefix registers claim followed waves endless said old new a b c are found told before (inl (same, files)) = inl (same, kept_on a b c before files)
+left_waves code asked search_options prefix registers claim followed waves endless said old new a b c are found told before (inr (printed, saved)) = inr (record {
+  has_said = said_waves code asked search_options prefix registers claim followed waves endless said old new are found told printed;
   saved = some_saved_on a b c prefix (journals_of waves endless) before saved;
 })
 
@@ -217,14 +218,13 @@ texts_of_waves Q (s ∷ ss) (w ∷ ws) ((text, end, moves), more) all =
 -- what is said of waves
 
 pub waves_said : (code : Compiled) (asked : Observed) (registers : List ℕ) (search_options : SearchOptions) (prefix : Option (List ℕ)) (claim : Claim) (waves shown : List (Shown Entry End)) (empty parts mid said first : List ℕ) (before : Option ℕ) (lines : ℕ) (endings : RunEndings) (stops : List StopDescription) → shown ≡ waves → empty ≡ [] → TellsWaves code.names registers prefix shown empty parts
-    → mid ≡ parts ++ before_line claim before → said ≡ mid ++ wave_verdict_text claim search_options.until (length shown) (observes_all asked) (length registers) lines endings stops prefix → first ≡ first_text shown → lines ≡ printed_lines (length registers) first → endings ≡ endings_of shown → stops ≡ stops_from 1 shown → AreWavesSaid code asked registers search_options prefix claim waves said
+    → mid ≡ parts ++ before_line claim before → said ≡ mid ++ wave_verdict_text claim search_options.until (length shown) (observes_all asked) (length registers) lines endings stops prefix → first ≡ first_text shown → lines ≡ printed_lines (length registers) first → endings ≡ endings_of shown → stops ≡ stops_from 1 shown → AreWavesSaid code asked registers search_options prefix claim before waves said
 waves_said code asked registers search_options prefix claim waves shown empty parts mid said first before lines endings stops same none tells told is begins printed ended short =
     let verdict = wave_verdict_text claim search_options.until (length shown) (observes_all asked) (length registers) lines endings stops prefix in
     let line = before_line claim before in
-    subst (λ (ws : List (Shown Entry End)). AreWavesSaid code asked registers search_options prefix claim ws said) same (record {
+    subst (λ (ws : List (Shown Entry End)). AreWavesSaid code asked registers search_options prefix claim before ws said) same (record {
       parts = parts;
       tells = subst (λ (l : List ℕ). TellsWaves code.names registers prefix shown l parts) none tells;
-      before = before;
       said_is =
           is ∙ (ap (λ (l : List ℕ). l ++ verdict) told ∙ (append_assoc parts line verdict
           ∙ (ap (λ (n : ℕ). parts ++ (line ++ wave_verdict_text claim search_options.until (length shown) (observes_all asked) (length registers) n endings stops prefix)) (printed ∙ ap (printed_lines (length registers)) begins)

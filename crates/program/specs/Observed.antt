@@ -133,13 +133,12 @@ abbrev pub before_line : Claim → Option ℕ → List ℕ
 before_line claim (Some time) = followed_at_limit claim time
 before_line claim None = []
 
--- What is said of waves: in what each but the first one parts from that, before which time all orders were followed, where a limit was met, what they are, how their runs end,
+-- What is said of waves: in what each but the first one parts from that, before which time all orders were followed, where a limit was met and one is known, what they are, how their runs end,
 -- and whose stop short.
-pub record AreWavesSaid (design : Compiled) (asked : Observed) (registers : List ℕ) (search_options : SearchOptions) (prefix : Option (List ℕ)) (claim : Claim) (waves : List (Shown Entry End)) (said : List ℕ) : Type 0 where
+pub record AreWavesSaid (design : Compiled) (asked : Observed) (registers : List ℕ) (search_options : SearchOptions) (prefix : Option (List ℕ)) (claim : Claim) (followed : Option ℕ) (waves : List (Shown Entry End)) (said : List ℕ) : Type 0 where
   pub parts : List ℕ
   pub tells : TellsWaves design.names registers prefix waves [] parts
-  pub before : Option ℕ
-  pub said_is : said ≡ parts ++ (before_line claim before ++ wave_verdict_text claim search_options.until (length waves) (observes_all asked) (length registers) (printed_lines (length registers) (first_text waves)) (endings_of waves) (stops_from 1 waves) prefix)
+  pub said_is : said ≡ parts ++ (before_line claim followed ++ wave_verdict_text claim search_options.until (length waves) (observes_all asked) (length registers) (printed_lines (length registers) (first_text waves)) (endings_of waves) (stops_from 1 waves) prefix)
 
 -- Waves of a design were found of the registers that were to be observed, and output grew by what is said of them.
 pub record HasSaidWaves (design : Compiled) (asked : Observed) (search_options : SearchOptions) (prefix : Option (List ℕ)) (old new : Option (List ℕ)) : Type 0 where
@@ -149,8 +148,9 @@ pub record HasSaidWaves (design : Compiled) (asked : Observed) (search_options :
   pub waves : List (Shown Entry End)
   pub endless : Option (List Entry)
   pub are_found : AreFoundWaves design search_options registers claim waves endless
+  pub followed : Option ℕ
   pub said : List ℕ
-  pub are_said : AreWavesSaid design asked registers search_options prefix claim waves said
+  pub are_said : AreWavesSaid design asked registers search_options prefix claim followed waves said
   pub printed : Appends old new said
 
 -- So it is, the journals of the waves, and of a run that comes to no end, were saved where a prefix is given, and this is what the search has come to.

@@ -1,5 +1,5 @@
 -- What a command leaves on standard output and in files.
-use Rattle.std.specs.Prelude.{◌≡◌, ◌⊎◌, ◌<◌, ◌++◌, ℕ, Bool, IsTrue, true, false, List, [], Option, Some, None, codes, drop, length, string_bytes}
+use Rattle.std.specs.Prelude.{◌≡◌, ◌⊎◌, ◌<◌, ◌++◌, ℕ, Bool, true, false, List, [], Option, Some, None, codes, drop, length, string_bytes}
 use Rattle.std.specs.Io.KnownBytes.{Appends, Keeps}
 use Rattle.design.specs.Compiled.{Compiled, design_of}
 use Rattle.model.specs.Syntax.{Module}
@@ -170,14 +170,16 @@ pub record IsToldLast (search_options : SearchOptions) (prefix : Option (List �
   pub apart : HaveSomeEnds shown ends
   pub text_is : last ≡ verdict_text claim search_options.until (length shown) ends (endings_of shown) (first_text shown) (stops_from 1 shown) prefix ++ until_line search_options.until claim end
 
--- How far a search came that met a limit is told, or nothing is: before which time all orders were followed, and where most choices are.
-abbrev pub IsReachTold : List ℕ → Claim → List ℕ → Type 0
-IsReachTold source claim lines = (lines ≡ []) ⊎ ((time : ℕ) × IsTrue (met_limit claim) × TellsReach source time [] lines)
+-- How far a search came is told where it met a limit and a time is known before which all orders were followed: that time, and where most choices are. Else nothing is.
+abbrev pub IsReachTold : List ℕ → Bool → Option ℕ → List ℕ → Type 0
+IsReachTold source true (Some time) lines = TellsReach source time [] lines
+IsReachTold source true None lines = lines ≡ []
+IsReachTold source false before lines = lines ≡ []
 
--- What is said of texts behind a search whose first run has this end, behind how far that came, where it met a limit.
-pub record IsSaidLast (source : List ℕ) (search_options : SearchOptions) (prefix : Option (List ℕ)) (end : End) (claim : Claim) (shown : List (Shown Entry End)) (said : List ℕ) : Type 0 where
+-- What is said of texts behind a search whose first run has this end, behind how far that came, where it met a limit: before this time all orders were followed, if one is known.
+pub record IsSaidLast (source : List ℕ) (search_options : SearchOptions) (prefix : Option (List ℕ)) (end : End) (claim : Claim) (before : Option ℕ) (shown : List (Shown Entry End)) (said : List ℕ) : Type 0 where
   pub reach : List ℕ
-  pub is_reach : IsReachTold source claim reach
+  pub is_reach : IsReachTold source (met_limit claim) before reach
   pub last : List ℕ
   pub is_last : IsToldLast search_options prefix end claim shown last
   pub said_is : said ≡ reach ++ last
@@ -193,8 +195,9 @@ pub record HasFound (source : List ℕ) (design : Compiled) (search_options : Se
   pub races_known : AreRacesKnown search_options.max_texts early.races.found shown
   pub more : List ℕ
   pub is_more : IsToldMore source design search_options prefix early.races shown more
+  pub before : Option ℕ
   pub said : List ℕ
-  pub is_said : IsSaidLast source search_options prefix early.races.found.original.end claim shown said
+  pub is_said : IsSaidLast source search_options prefix early.races.found.original.end claim before shown said
   pub last_is : last ≡ more ++ said
 
 -- Of the design that the source in a file describes races were told, and then what was found of its texts, so far as this says. Output grew by both, the journals of the texts, and of a run that comes to no

@@ -283,7 +283,7 @@ fn wave_lines(
     waves: &FoundTexts,
     request: &RacesRequest<'_>,
 ) -> Result<Vec<u8>, AllocError>
-    ensures { IfOk result (λ said. AreWavesSaid design.now request.now.observed registers.now request.now.search_options (option_map (λ path. path.now) request.now.journals) waves.now.claim waves.now.shown.items said.items) }
+    ensures { IfOk result (λ said. AreWavesSaid design.now request.now.observed registers.now request.now.search_options (option_map (λ path. path.now) request.now.journals) waves.now.claim waves.now.followed_before waves.now.shown.items said.items) }
 {
     let names = WaveNames {
         design,

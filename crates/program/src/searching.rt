@@ -421,19 +421,26 @@ fn until_line(until: Option<u64>, claim: Claim, end: End) -> &'static [u8]
 }
 
 /// How far a search came that left something out, if that is known.
-fn reach_of(texts: &FoundTexts) -> Option<SearchReach<'_>> {
-    let followed_before = match texts.followed_before {
-        Some(time) => time,
-        None => return None,
-    };
-    let widest = match &texts.widest {
+fn reach_of(texts: &FoundTexts) -> Option<SearchReach<'_>>
+    ensures { option_map (λ reach. reach.followed_before) result ≡ texts.now.followed_before }
+{
+    match texts.followed_before {
+        Some(time) => Some(SearchReach {
+            followed_before: time,
+            widest: widest_of(texts),
+        }),
+        None => None,
+    }
+}
+
+/// A journal that leads to where most ways lead on, if there is one.
+fn widest_of(texts: &FoundTexts) -> Option<&[Entry]>
+    ensures { option_map (λ journal. journal.now) result ≡ option_map (λ journal. journal.items) texts.now.widest }
+{
+    match &texts.widest {
         Some(journal) => Some(journal.as_slice()),
         None => None,
-    };
-    Some(SearchReach {
-        followed_before,
-        widest,
-    })
+    }
 }
 
 /// The lines on how far a search came that met a limit, if that is known; none where it met none.
@@ -442,7 +449,7 @@ fn reach_lines(
     names: &RaceNames<'_>,
     texts: &FoundTexts,
 ) -> Result<Vec<u8>, AllocError>
-    ensures { IfOk result (λ lines. IsReachTold names.entry.now.source.now texts.now.claim lines.items) }
+    ensures { IfOk result (λ lines. IsReachTold names.entry.now.source.now (met_limit texts.now.claim) texts.now.followed_before lines.items) }
 {
     if !met_limit(texts.claim) {
         return Ok(Vec::new(alloc));
@@ -464,7 +471,7 @@ fn said_lines(
     search_options: SearchOptions,
     end: End,
 ) -> Result<Vec<u8>, AllocError>
-    ensures { IfOk result (λ said. IsSaidLast names.entry.now.source.now search_options (option_map (λ path. path.now) names.entry.now.prefix) end texts.now.claim texts.now.shown.items said.items) }
+    ensures { IfOk result (λ said. IsSaidLast names.entry.now.source.now search_options (option_map (λ path. path.now) names.entry.now.prefix) end texts.now.claim texts.now.followed_before texts.now.shown.items said.items) }
 {
     let reach = reach_lines(alloc, names, texts)?;
     let last = last_lines(alloc, texts, search_options, names.prefix, end)?;

@@ -16,7 +16,7 @@ returns-in-Ok-clause-ended g c =
     let tried = g.F.Files.made c.try_first.new.files in
     let endless = option_map (λ journal. journal.items) waves.endless in
     let early = none_early tried prefix c.none.result.count (journals_of waves.shown.items endless) c.none.result.fault c.none.ensures.count c.none.ensures.fault in
-    found_waves c.args.design.now request.observed request.search_options prefix c.args.registers.now waves.claim waves.shown.items (option_map (λ journal. journal.items) waves.endless) c.in_ok-said.said.items begun end
+    found_waves c.args.design.now request.observed request.search_options prefix c.args.registers.now waves.claim waves.followed_before waves.shown.items (option_map (λ journal. journal.items) waves.endless) c.in_ok-said.said.items begun end
     (g.F.Files.made c.args.files.now) (g.F.Files.made c.try_first.new.files) (g.F.Files.made c.tell_texts.new.files) c.finding_of-found.result c.requires c.in_ok-waves.ensures c.in_ok-said.ensures
     c.in-Ok.ensures.told c.in_ok-try_first.ensures.kept (c.in-Ok.ensures.saved tried early) c.finding_of-found.ensures
 
@@ -31,7 +31,7 @@ returns-clause-wanting g c = λ six.
     let tried = g.F.Files.made c.try_first.new.files in
     let saved = g.F.Files.made c.tell_texts.new.files in
     let early = none_early tried prefix c.none.result.count (journals_of waves.shown.items endless) c.none.result.fault c.none.ensures.count c.none.ensures.fault in
-    left_waves c.args.design.now request.observed request.search_options prefix c.args.registers.now waves.claim waves.shown.items endless c.in_ok-said.said.items begun end (g.F.Files.made c.args.files.now) tried saved c.requires c.in_ok-waves.ensures c.in_ok-said.ensures
+    left_waves c.args.design.now request.observed request.search_options prefix c.args.registers.now waves.claim waves.followed_before waves.shown.items endless c.in_ok-said.said.items begun end (g.F.Files.made c.args.files.now) tried saved c.requires c.in_ok-waves.ensures c.in_ok-said.ensures
     c.in_ok-try_first.ensures.kept
     (c.in-Err.ensures.wanting tried early six)
 
