@@ -1,6 +1,6 @@
 -- The lawful journals of what a search of loose runs shows. How a run ends is told as the search tells it, and what a lawful journal of a text and
 -- such an end is, a relation says.
-use Rattle.std.specs.Prelude.{◌≡◌, ◌⊎◌, ℕ, Bool, true, List, [], ◌∷◌, ◌++◌, map, Option, None, Some, IfSome}
+use Rattle.std.specs.Prelude.{◌≡◌, ◌⊎◌, ℕ, Bool, true, List, [], ◌∷◌, ◌++◌, map, Option, Some, IfSome}
 use Rattle.std.specs.List.{All, Any}
 use Rattle.model.specs.declared.entry.Entry.{Entry}
 use Rattle.model.specs.declared.end.Limits.{Limits}
@@ -54,18 +54,9 @@ pub record AreFirstShownLawfully {End : Type 0} (IsJournal : JournalRelation End
   pub all : whole ≡ true → rest ≡ []
   pub shown_is : AreShownLawfully IsJournal part lawful
 
--- why a search stopped that lacks journals for want of memory: that, if it had no other reason but the most texts
-abbrev pub memory_or : Option Stopped → Option Stopped
-memory_or None = Some stop.Memory
-memory_or (Some stop.Shown) = Some stop.Memory
-memory_or (Some stop.Nodes) = Some stop.Nodes
-memory_or (Some stop.Unfollowed) = Some stop.Unfollowed
-memory_or (Some stop.Bytes) = Some stop.Bytes
-memory_or (Some stop.Memory) = Some stop.Memory
-
--- why a search stopped, where all its runs have their journals and where some lack them
+-- why a search stopped: as it did where all its runs have their journals, and for want of memory where some lack them
 abbrev pub IsStoppedBy : Option Stopped → Bool → Option Stopped → Type 0
-IsStoppedBy before whole stopped = ((whole ≡ true) × (stopped ≡ before)) ⊎ (stopped ≡ memory_or before)
+IsStoppedBy before whole stopped = ((whole ≡ true) × (stopped ≡ before)) ⊎ (stopped ≡ Some stop.Memory)
 
 -- this journal is lawful and in time, and it has no more entries than it may have
 pub record IsLedJournal (design : Design) (limits : Limits) (journal : List Entry) : Type 0 where

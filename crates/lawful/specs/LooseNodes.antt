@@ -55,6 +55,10 @@ pub record HoldsEffect (code : Compiled) (node : LooseNode) (e : Effect) : Type 
   pub ready : IsReadyNode code node
   pub state_is : state_at node.machine.value ≡ e.state
 
+-- the time of a node is that of its machine
+abbrev pub time_of_node : LooseNode → ℕ
+time_of_node node = node.machine.value.core.time
+
 -- the loose runs of a design, at which nodes stand
 abbrev pub searched_runs : Compiled → (ℕ → ℕ) → Limits → Runs LooseTransition LooseNode End
 searched_runs code class limits = loose_runs_of (HoldsEffect code) class (design_of code) limits

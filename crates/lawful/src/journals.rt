@@ -1,11 +1,11 @@
 //! The lawful journals of what a search of loose runs found.
-ghost use Rattle.std.specs.Prelude.{◌≡◌, ◌≤◌, true, Some, IfOk, IfSome, OnErr};
+ghost use Rattle.std.specs.Prelude.{◌≡◌, ◌≤◌, true, IfOk, IfSome, OnErr};
 ghost use Rattle.model.specs.Runs.{last_time};
 ghost use Rattle.design.specs.Compiled.{design_of};
 ghost use Rattle.loose.specs.Classes.{class_in};
 ghost use Rattle.explore.specs.Search.{IsEndless};
 ghost use Rattle.lawful.specs.LooseNodes.{searched_runs};
-ghost use Rattle.lawful.specs.Journals.{AreFirstShownLawfully, IsAddedLawfully, IsFoundLawfully, IsLedJournal, IsShownLawfully, IsStoppedBy, memory_or};
+ghost use Rattle.lawful.specs.Journals.{AreFirstShownLawfully, IsAddedLawfully, IsFoundLawfully, IsLedJournal, IsShownLawfully, IsStoppedBy};
 
 use crate::endless::endless_journal;
 use crate::telling::RunTelling;
@@ -96,27 +96,14 @@ fn with_journals<T: RunTelling>(
     })
 }
 
-// Why a search stopped that lacks a journal for want of memory: for a reason that it had before it, other than the most texts, of which it
-// may show fewer now.
-fn stopped_without_journal(stopped: Option<Stopped>) -> Stopped
-    ensures { Some result ≡ memory_or stopped }
-{
-    match stopped {
-        Some(Stopped::Nodes) => Stopped::Nodes,
-        Some(Stopped::Unfollowed) => Stopped::Unfollowed,
-        Some(Stopped::Bytes) => Stopped::Bytes,
-        _ => Stopped::Memory,
-    }
-}
-
-// Why a search stopped, by whether all its runs have their journals.
+// Why a search stopped, by whether all its runs have their journals: where some lack them, for want of memory.
 fn stopped_by(stopped: Option<Stopped>, whole: bool) -> Option<Stopped>
     ensures { IsStoppedBy stopped whole result }
 {
     if whole {
         return stopped;
     }
-    Some(stopped_without_journal(stopped))
+    Some(Stopped::Memory)
 }
 
 // The lawful journal that these transitions of a loose run lead. None where they lead none. Fails where memory is refused.

@@ -1,5 +1,5 @@
 //! The lawful orders of a design, found by its loose runs.
-ghost use Rattle.std.specs.Prelude.{◌≡◌, ◌<◌, ◌≤◌, [], length, None, Some, IfSome};
+ghost use Rattle.std.specs.Prelude.{◌≡◌, ◌⊎◌, ◌<◌, ◌≤◌, [], length, None, Some, IfSome};
 ghost use Rattle.std.specs.List.{All, AllPairs, Any};
 ghost use Rattle.model.specs.Runs.{last_time};
 ghost use Rattle.model.specs.Texts.{AreAllTexts, IsEndlessJournal, IsLawfulText, IsWithinLimits};
@@ -7,9 +7,10 @@ ghost use Rattle.design.specs.Compiled.{design_of};
 ghost use Rattle.explore.specs.declared.stopped.Stopped.TheVariants as stop;
 ghost use Rattle.looseruns.specs.ObservedJournals.{AreAllObservedTexts};
 ghost use Rattle.observers.specs.Observers.{observer_of};
-ghost use Rattle.lawful.specs.ArrangedNodes.{IsArrangedText, IsArrangementOf, registers_seen};
+ghost use Rattle.lawful.specs.ArrangedNodes.{IsArrangedText, IsArrangementOf, registers_seen, searched_arranged};
 ghost use Rattle.lawful.specs.Journals.{IsLedJournal};
-ghost use Rattle.lawful.specs.LawfulOrders.{AreLawfulOrders, MaySearch};
+ghost use Rattle.lawful.specs.LawfulOrders.{AreLawfulOrders, IsFollowedLoosely, MaySearch};
+ghost use Rattle.lawful.specs.LooseNodes.{searched_runs};
 
 use crate::journals::with_all_journals;
 use crate::search::LooseRuns;
@@ -63,7 +64,7 @@ fn orders_by<T: RunTelling, P: Progress>(
     classes: Vec<u32>,
 ) -> Option<Explored<Entry, T::End>>
     requires { MaySearch scope.limits scope.bounds }
-    ensures { IfSome result (AreLawfulOrders (T.is_journal telling.now scope.entry.design.now scope.entry.limits) (T.are_all telling.now scope.entry.design.now scope.entry.limits) (design_of scope.entry.design.now) scope.entry.limits scope.entry.bounds) }
+    ensures { IfSome result (AreLawfulOrders (T.is_journal telling.now scope.entry.design.now scope.entry.limits) (T.are_all telling.now scope.entry.design.now scope.entry.limits) (λ class. T.runs telling.now scope.entry.design.now class scope.entry.limits) (design_of scope.entry.design.now) scope.entry.limits scope.entry.bounds) }
 {
     let analyzed_design = AnalyzedDesign::of(scope.alloc, scope.design);
     let orders = LooseRuns::new(analyzed_design, classes, scope.limits, telling);
@@ -88,7 +89,7 @@ fn told_orders<T: RunTelling, P: Progress>(
     progress: &P,
 ) -> Explored<Entry, T::End>
     requires { MaySearch limits bounds }
-    ensures { AreLawfulOrders (T.is_journal telling.now design.now limits) (T.are_all telling.now design.now limits) (design_of design.now) limits bounds result }
+    ensures { AreLawfulOrders (T.is_journal telling.now design.now limits) (T.are_all telling.now design.now limits) (λ class. T.runs telling.now design.now class limits) (design_of design.now) limits bounds result }
 {
     let scope = Scope {
         alloc,
@@ -114,8 +115,8 @@ fn told_orders<T: RunTelling, P: Progress>(
 /// journal beside it, and so is its end; no two have one text and one end; and where the search wasn't stopped, every lawful journal
 /// in time that ends, but by the most entries or for want of memory, has a text and an end that are shown. What stopped it is told
 /// (`Unfollowed`: a run has the most entries), and so is a lawful journal from which no run comes to an end, where one is known. No
-/// journal has more than the most entries. How many states were reached is told at times. Before which time nothing was left out is told as
-/// `explore` tells it, of loose runs; and so is where most ways lead on, by a lawful journal.
+/// journal has more than the most entries. How many states were reached is told at times. Unless memory was refused, a time is told before
+/// which nothing was left out of the loose runs; and where most ways lead on is told by a lawful journal.
 ///
 /// The loose runs of the design are searched, and each lawful journal is one. Where one of their texts has no lawful journal that is
 /// found, the search is made once more with all registers in one class. Where memory is refused to a journal, the texts before it are
@@ -139,6 +140,7 @@ pub fn lawful_orders<P: Progress>(
     ensures nodes { result.stopped ≡ Some stop.Nodes → result.nodes ≡ bounds.nodes }
     ensures full { result.stopped ≡ Some stop.Shown → length result.shown.items ≡ bounds.shown }
     ensures endless { IfSome result.endless (λ journal. IsEndlessJournal (design_of design.now) limits journal.items) }
+    ensures before { (result.stopped ≡ Some stop.Memory) ⊎ IsFollowedLoosely (λ class. searched_runs design.now class limits) result }
     ensures widest { IfSome result.widest (λ journal. IsLedJournal (design_of design.now) limits journal.items) }
 {
     told_orders(&LinesAlone, alloc, design, limits, bounds, progress)
@@ -173,6 +175,7 @@ pub fn observed_orders<P: Progress>(
     ensures nodes { result.stopped ≡ Some stop.Nodes → result.nodes ≡ bounds.nodes }
     ensures full { result.stopped ≡ Some stop.Shown → length result.shown.items ≡ bounds.shown }
     ensures endless { IfSome result.endless (λ journal. IsEndlessJournal (design_of design.now) limits journal.items) }
+    ensures before { (result.stopped ≡ Some stop.Memory) ⊎ IsFollowedLoosely (λ class. searched_arranged design.now class limits observing.now) result }
     ensures widest { IfSome result.widest (λ journal. IsLedJournal (design_of design.now) limits journal.items) }
 {
     told_orders(observing, alloc, design, limits, bounds, progress)

@@ -1,12 +1,14 @@
 -- What the search says of loose runs is said of lawful journals.
-use Rattle.std.proofs.Common.{◌≡◌, ℕ, List, sym, ◌∙◌, subst}
+use Rattle.std.proofs.Common.{◌≡◌, ◌⊎◌, ℕ, List, Some, sym, ◌∙◌, subst}
 use Rattle.std.specs.Prelude.{IfSome}
 use Rattle.std.proofs.lemmas.Option.{IfSome_then}
 use Rattle.model.specs.declared.end.Limits.{Limits}
 use Rattle.design.specs.Compiled.{Compiled, design_of}
+use Rattle.explore.specs.declared.stopped.Stopped.TheVariants as stop
+use Rattle.explore.specs.Reach.{AreFollowedBefore}
 use Rattle.explore.specs.Search.{AreAllShown, IsEndless}
 use Rattle.loose.specs.Classes.{class_in}
-use Rattle.lawful.specs.LooseNodes.{searched_runs}
+use Rattle.lawful.specs.LooseNodes.{searched_runs, time_of_node}
 use Rattle.lawful.specs.LawfulOrders.{AreFoundLoosely}
 use Rattle.lawful.proofs.FoundOrders.{are_lawful_orders}
 use Rattle.lawful.proofs.lawful.orders_by.Goals as goal
@@ -46,7 +48,11 @@ returns g c =
       few_shown = ensures.few_shown;
       nodes_full = ensures.nodes;
       shown_full = ensures.full;
+      before =
+          let of_telling = subst (λ t. (loosely.stopped ≡ Some stop.Memory) ⊎ AreFollowedBefore (told.runs t o.analyzed_design class o.limits) time_of_node loosely.shown.items loosely.followed_before) c.new-orders.ensures.telling ensures.before in
+          let of_design = subst (λ (k : Compiled). (loosely.stopped ≡ Some stop.Memory) ⊎ AreFollowedBefore (told.runs telling k class o.limits) time_of_node loosely.shown.items loosely.followed_before) code of_telling in
+          subst (λ (l : Limits). (loosely.stopped ≡ Some stop.Memory) ⊎ AreFollowedBefore (told.runs telling design class l) time_of_node loosely.shown.items loosely.followed_before) c.new-orders.ensures.limits of_design;
     } in
     IfSome_then c.with_all_journals.result c.with_all_journals.ensures
-    (λ x found. are_lawful_orders (told.is_journal telling design limits) (told.are_all telling design limits) (told.runs telling design class limits) (design_of design) limits c.args.scope.bounds loosely x
+    (λ x found. are_lawful_orders (told.is_journal telling design limits) (told.are_all telling design limits) (λ (by : ℕ → ℕ). told.runs telling design by limits) class (design_of design) limits c.args.scope.bounds loosely x
     (g.met.T.RunTelling.all_told telling design class limits) searched found)
