@@ -37,8 +37,7 @@ pub record IsNumberBetween (code : Compiled) (deed : Deed) (first end number : �
 abbrev pub MayKeep : ℕ → ℕ → List ℕ → List ℕ → Type 0
 MayKeep times number old new = (new ≡ old) ⊎ ((0 < times) × (new ≡ old ++ number ∷ []))
 
--- Each of these numbers is that of a node of a process that does what is looked for, and so often all of its nodes do. The process's nodes are those from where it begins up
--- to where the next one does.
+-- Each of these numbers is that of a node from where a process begins up to an end, which does what is looked for, and so often all nodes up to there do.
 pub record AreNumbered (code : Compiled) (process : ℕ) (deed : Deed) (run : RunStatements) : Type 0 where
   pub first : ℕ
   pub end : ℕ

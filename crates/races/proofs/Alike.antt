@@ -9,7 +9,7 @@ use Rattle.runs.specs.RunRecords.{IsRun}
 use Rattle.runs.specs.Compared.{AreLike}
 use Rattle.accesses.specs.declared.pair.Pair.{Pair}
 use Rattle.races.specs.declared.unseen.UnseenDifference.{UnseenDifference}
-use Rattle.races.specs.Unseen.{ComeInBothOrders, DifferByPair, DifferWhenPassing, IsUnseen, PassesIn, is_at_rest, other_values}
+use Rattle.races.specs.Unseen.{ComeInBothOrders, DifferByPair, DifferWhenPassing, IsUnseen, PassesIn, is_at_rest}
 
 -- the same registers differ when the same time passes, whichever entries are told
 pub differ_so : (code : Compiled) (one other : List Entry) (d e : UnseenDifference) → e.time ≡ d.time → e.registers ≡ d.registers → DifferWhenPassing code one other d → DifferWhenPassing code one other e
