@@ -66,6 +66,21 @@ const RACES: SearchRow<'static> = SearchRow {
     ..PLAIN
 };
 
+/// Two processes that wake each other at one time in any number of rounds: there is a text for each, and its journal is longer than the one
+/// before. So the journals of all that are shown take many times what the states take.
+const ROUNDS: SearchRow<'static> = SearchRow {
+    source: b"module t; reg a, b, c, d; initial begin #1 a=1'b0; b=1'b0; d=1'b1; #3 $display(\"%b%b%b\",a,b,d); end always @(a) $strobe(\"q\"); always @(d) a<=c&d; always @(a) d=a^b; endmodule",
+    until: 6,
+    entries: 100_000,
+    bounds: Bounds {
+        nodes: 1_000_000,
+        shown: 100_000,
+        bytes: 1_000_000,
+    },
+    stopped: "bytes",
+    ..PLAIN
+};
+
 /// A race after which the run has finished or goes on, with four processes behind it that give one register a value: the text of the first
 /// is shown before the search has come to most of its memory.
 const FINISHED_OR_NOT: SearchRow<'static> = SearchRow {
@@ -284,11 +299,30 @@ fn assert_row(rt: &impl Abort, alloc: Global, row: &SearchRow<'_>) {
     assert_found(rt, &found, row);
 }
 
+// How many entries the journals of what is shown have together.
+fn entries_of(found: &Explored<Entry, End>) -> usize {
+    let mut entries: usize = 0;
+    for one in found.shown.iter() {
+        entries = entries.saturating_add(one.moves.len());
+    }
+    entries
+}
+
 #[test]
 fn texts_of_lawful_orders_are_shown(rt: HostRuntime) {
     for row in ROWS {
         assert_row(&rt, rt.alloc(), row);
     }
+}
+
+/// The journals of what is shown count among the bytes that a search keeps.
+#[test]
+fn journals_count_among_the_bytes(rt: HostRuntime) {
+    let design = design_of(&rt, rt.alloc(), ROUNDS.source);
+    let found = found_of(&rt, rt.alloc(), &design, &ROUNDS);
+    holds(&rt, reason_of(&found) == ROUNDS.stopped, "another reason");
+    let bytes = entries_of(&found).saturating_mul(size_of::<Entry>());
+    holds(&rt, bytes <= ROUNDS.bounds.bytes, "more bytes");
 }
 
 // What a search in so much memory shows: how many texts, and why there may be others.
