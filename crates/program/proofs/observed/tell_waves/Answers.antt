@@ -20,8 +20,8 @@ returns-in-Ok-clause-ended g c =
     (g.F.Files.made c.args.files.now) (g.F.Files.made c.try_first.new.files) (g.F.Files.made c.tell_texts.new.files) c.finding_of-found.result c.requires c.in_ok-waves.ensures c.in_ok-said.ensures
     c.in-Ok.ensures.told c.in_ok-try_first.ensures.kept (c.in-Ok.ensures.saved tried early) c.finding_of-found.ensures
 
-pub returns-clause-wanting : goal.returns-clause-wanting
-returns-clause-wanting g c = λ six.
+pub returns-in-Err-clause-wanting : goal.returns-in-Err-clause-wanting
+returns-in-Err-clause-wanting g c = λ six.
     let request = c.args.request.now in
     let prefix = option_map (λ path. path.now) request.journals in
     let waves = c.in_ok-waves.waves in

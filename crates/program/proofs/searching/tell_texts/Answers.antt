@@ -1,5 +1,5 @@
 -- What was told, and which journals were saved behind it.
-use Rattle.std.proofs.Common.{List, Option, ℕ, inl, inr, map, option_map, sym, subst}
+use Rattle.std.proofs.Common.{◌≡◌, List, Option, ℕ, inl, inr, map, option_map, sym, subst}
 use Rattle.std.specs.Io.KnownBytes.{Appends}
 use Rattle.model.specs.declared.entry.Entry.{Entry}
 use Rattle.model.specs.declared.end.End.{End}
