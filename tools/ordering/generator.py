@@ -9,7 +9,8 @@ A part of the designs are synchronous: a clock, processes that assign at its edg
 processes are then made a little otherwise, so that a race is near.
 
 Register-transfer designs are made where they are asked for: registers that are assigned at an edge without blocking, combinational processes in an order
-behind them, each of which waits for all that it reads, and a stimulus. One in five has one thing in it that is otherwise.
+behind them, each of which waits for all that it reads, and a stimulus. One in five has one thing in it that is otherwise. Of combinational processes
+some have their wait behind their statements, or between them.
 """
 from ordering.tree import Module, Process
 
@@ -142,7 +143,17 @@ class Generator:
             assigned = ("if", ("name", self.pick(read)), (assigned,), other)
         if self.chance(0.1):
             assigned = ("block", (assigned, ("assign", name, None, ("unary", "~", ("name", name)))))
-        return Process(True, ("await", tuple(("posedge" if self.chance(0.05) else "", it) for it in waited), assigned))
+        return self.waiting(tuple(("posedge" if self.chance(0.05) else "", it) for it in waited), assigned)
+
+    def waiting(self, triggers, statement):
+        """A process that runs statements at each of these changes: they stand behind its wait, before it, or on both sides."""
+        draw = self.random.random()
+        if draw < 0.6:
+            return Process(True, ("await", triggers, statement))
+        parts = statement[1] if statement[0] == "block" else (statement,)
+        split = len(parts) if draw < 0.85 else self.random.randrange(len(parts) + 1)
+        behind = ("block", parts[split:]) if parts[split:] else ("empty",)
+        return Process(True, ("block", (*parts[:split], ("await", triggers, behind))))
 
     # Register-transfer designs
 
@@ -188,7 +199,7 @@ class Generator:
             assigned = ("if", operand(), (assigned,), (("assign", name, None, ("unary", "~", operand())),))
         if self.chance(0.3):
             assigned = ("block", (assigned, ("assign", name, None, ("binary", "^", ("name", name), operand()))))
-        return Process(True, ("await", tuple(("", it) for it in used), assigned))
+        return self.waiting(tuple(("", it) for it in used), assigned)
 
     def input(self, name):
         """A stimulus without blocking, at the times of edges and between them."""
