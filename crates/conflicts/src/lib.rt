@@ -7,8 +7,8 @@
 //!    `$strobe`, and which entry made its event. These notes are kept from one change of the regions to the next (`segment`).
 //! 3. Two entries of one segment conflict where the later one doesn't need the earlier one and one changes what the other reads, writes or
 //!    waits for, or both assign a register other values, or both print, or both meet a `$strobe`; and an entry that finishes the run
-//!    conflicts with those before it, and with the events that it leaves behind. What stands between the two and doesn't depend on the
-//!    earlier one goes with them (`depend`). They are kept in rounds (`conflicts`).
+//!    conflicts with those before it, and with the events that it leaves behind. What each entry needs is found once for all of a segment
+//!    (`needed_steps`). What stands between the two and doesn't depend on the earlier one goes with them (`depend`). They are kept in rounds (`conflicts`).
 //! 4. `record_two` compares two neighbours of a journal alone.
 //! 5. Whether two runs have the entries of a conflict in both orders, a machine says that is led to them in each (`both_orders`).
 //!
@@ -23,6 +23,7 @@ mod conflicts;
 mod counts;
 mod depend;
 mod journaled_machine;
+mod needed_steps;
 mod recorder;
 mod segment;
 mod step_set;

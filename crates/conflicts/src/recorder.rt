@@ -23,7 +23,7 @@ use turn::{FillFault, Suspend, TurnLog};
 #[derive(Clone, Copy)]
 struct EventOrigin {
     process: u32,
-    place: usize,
+    place: u32,
 }
 
 // The most events that are looked at which a run leaves behind as it finishes.
@@ -118,7 +118,7 @@ impl RunRecorder {
         log: &TurnLog,
     ) -> Noted {
         if !self.segment.is_full() {
-            let origin = self.origin(number).map(|origin| origin.place);
+            let origin = self.origin(number).map(|origin| origin.place as usize);
             self.segment.step(Actor::Turn(process), origin);
             self.note_values(machine, log);
             self.note_lines(log);
@@ -201,7 +201,7 @@ impl RunRecorder {
         if !self.segment.is_full() {
             let changes = machine.value(register) != Some(value);
             self.segment
-                .step(Actor::Update(origin.process), Some(origin.place));
+                .step(Actor::Update(origin.process), Some(origin.place as usize));
             self.segment
                 .access(Site::Register(register), Does::Updates, changes);
         }
@@ -239,7 +239,10 @@ impl RunRecorder {
         match noted.process {
             Some(process) => {
                 let made = noted.own.saturating_add(machine.made().len() as u64);
-                is_kept & self.note_made(EventOrigin { process, place }, made)
+                match u32::try_from(place) {
+                    Ok(place) => is_kept & self.note_made(EventOrigin { process, place }, made),
+                    Err(_) => false,
+                }
             }
             None => {
                 self.segment.begin(place.saturating_add(1), machine.time());

@@ -4,6 +4,7 @@ use crate::bounds::Bound;
 use crate::conflicts::{Conflict, Conflicts, Turning};
 use crate::counts::OccurrenceCounts;
 use crate::depend::PriorSteps;
+use crate::needed_steps::NeededSteps;
 use crate::step_set::StepSet;
 use accesses::{Does, Pair, Role, Site};
 use design::RegId;
@@ -87,6 +88,8 @@ pub(crate) struct Segment {
     assigns_to: OccurrenceCounts,
     /// More than the number of each site that was accessed.
     sites: usize,
+    /// Which steps each step needs, once all are noted.
+    needed: NeededSteps,
     /// The step that finishes the run, if one does.
     finishing: Option<usize>,
     /// Why there is no room for more: there were too many to look at, or memory was refused to a note of them.
@@ -114,6 +117,7 @@ impl Segment {
             accesses_to: OccurrenceCounts::new(alloc),
             assigns_to: OccurrenceCounts::new(alloc),
             sites: 0,
+            needed: NeededSteps::new(alloc),
             finishing: None,
             cut: None,
         }
@@ -140,6 +144,7 @@ impl Segment {
         self.steps.clear();
         self.accesses.clear();
         self.assigns.clear();
+        self.needed.clear();
         self.finishing = None;
         self.cut = None;
     }
@@ -317,10 +322,14 @@ impl Segment {
         }
     }
 
-    // Whether a step needs an earlier one itself, and not by another one that does.
+    // Whether a step is known to need an earlier one: itself, or by another one where that was found.
     fn comes_of(&self, later: usize, earlier: usize) -> bool {
         match self.steps.get(later) {
-            Some(step) => step.cause == Some(earlier) || step.before == Some(earlier),
+            Some(step) => {
+                step.cause == Some(earlier)
+                    || step.before == Some(earlier)
+                    || self.needed.has(later, earlier)
+            }
             None => false,
         }
     }
@@ -372,11 +381,25 @@ impl Segment {
         }
     }
 
+    // Finds which steps need which. Of two steps that shows by themselves. Where memory is refused, nothing is found, and that of two steps
+    // the later one doesn't need the earlier one is found for each two anew.
+    fn find_needed(&mut self) {
+        if self.steps.len() > 2 {
+            let _ = self.needed.find(&self.steps);
+        }
+    }
+
     /// Keeps the conflicts of the entries since the last change of the regions.
-    pub(crate) fn find_conflicts(&self, conflicts: &mut Conflicts) {
+    pub(crate) fn find_conflicts(&mut self, conflicts: &mut Conflicts) {
         if let Some(bound) = self.cut {
             conflicts.cut_by(bound);
         }
+        self.find_needed();
+        self.keep_conflicts(conflicts);
+    }
+
+    // Keeps the conflicts of the accesses, and those of the nonblocking assignments.
+    fn keep_conflicts(&self, conflicts: &mut Conflicts) {
         for one in self.accesses.iter() {
             if one.changes && self.accesses_to.of(one.site_number()) > 1 {
                 self.conflicts_of(conflicts, *one);
@@ -404,6 +427,9 @@ impl Segment {
     // Keeps the conflict of a step with a later one that finishes the run, which might cut it off.
     fn add_cut_off(&self, conflicts: &mut Conflicts, earlier: usize, last: usize) {
         let (site, does) = self.lost(earlier);
+        if self.comes_of(last, earlier) {
+            return;
+        }
         if let Some(pair) = self.pair(site, (earlier, does), (last, Does::Finishes)) {
             if let Some(round) = conflicts.round_of(pair) {
                 let before = self.cut_off(self.alloc, earlier, last);

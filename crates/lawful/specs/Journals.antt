@@ -25,6 +25,10 @@ texts_and_ends shown = map (λ s. (s.text.items, s.end)) shown
 abbrev pub IsTextAmong : {End : Type 0} → List (List ℕ × End) → List ℕ → End → Type 0
 IsTextAmong told text end = Any (λ pair. (pair.0 ≡ text) × (pair.1 ≡ end)) told
 
+-- this journal is known of a text and an end
+abbrev pub IsKnownJournal : {End : Type 0} → List (Shown Entry End) → List ℕ → End → List Entry → Type 0
+IsKnownJournal known text end journal = Any (λ s. (s.text.items ≡ text) × (s.end ≡ end) × (s.moves.items ≡ journal)) known
+
 -- what is shown has a lawful journal of its text and its end beside it
 abbrev pub HasLawfulJournal : {End : Type 0} → JournalRelation End → Shown Entry End → Type 0
 HasLawfulJournal IsJournal shown = IsJournal shown.text.items shown.end shown.moves.items

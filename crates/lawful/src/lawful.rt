@@ -16,7 +16,7 @@ use crate::journals::with_all_journals;
 use crate::search::LooseRuns;
 use crate::telling::{LinesAlone, RunTelling};
 use design::Design;
-use explore::{Bounds, Explored, Stopped, explore};
+use explore::{Bounds, Explored, Shown, Stopped, explore};
 use loosejournals::{LeadScope, classes_of};
 use looseruns::observed_end::ObservedEnd;
 use model::end::{End, Limits};
@@ -121,16 +121,20 @@ fn told_orders<T: RunTelling, P: Progress>(
 /// The loose runs of the design are searched, and each lawful journal is one. Where one of their texts has no lawful journal that is
 /// found, the search is made once more with all registers in one class. Where memory is refused to a journal, the texts before it are
 /// shown with theirs.
+///
+/// A text and an end that are known before have the journal that is known of them.
 pub fn lawful_orders<P: Progress>(
     alloc: Global,
     design: &Design,
     limits: Limits,
     bounds: Bounds,
+    known: &[Shown<Entry, End>],
     progress: &P,
 ) -> Explored<Entry, End>
     requires room { 0 < bounds.nodes }
     requires some_entry { 0 < limits.max_entries }
     requires until { IfSome limits.until (λ until. until ≤ last_time) }
+    requires known { All (λ s. IsLawfulText (design_of design.now) limits s.moves.items s.text.items s.end × IsWithinLimits limits s.moves.items) known.now }
     ensures sound { All (λ s. IsLawfulText (design_of design.now) limits s.moves.items s.text.items s.end) result.shown.items }
     ensures distinct { AllPairs (λ s t. s.text.items ≡ t.text.items → s.end ≡ t.end → ⊥) result.shown.items }
     ensures within { All (λ s. IsWithinLimits limits s.moves.items) result.shown.items }
@@ -143,7 +147,8 @@ pub fn lawful_orders<P: Progress>(
     ensures before { (result.stopped ≡ Some stop.Memory) ⊎ IsFollowedLoosely (λ class. searched_runs design.now class limits) result }
     ensures widest { IfSome result.widest (λ journal. IsLedJournal (design_of design.now) limits journal.items) }
 {
-    told_orders(&LinesAlone, alloc, design, limits, bounds, progress)
+    let telling = LinesAlone { known };
+    told_orders(&telling, alloc, design, limits, bounds, progress)
 }
 
 /// Searches all lawful orders of a design within these limits (11.4) for all that is observed of them: the lines of each time, in one order, and

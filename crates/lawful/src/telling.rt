@@ -1,5 +1,5 @@
 //! What is told of the runs of a search: their lines, or what is observed of them besides.
-ghost use Rattle.std.specs.Prelude.{◌≡◌, ◌≤◌, ◌↔◌, ◌++◌, ℕ, List, [], IsTrue, IfOk, IfSome, OnOk};
+ghost use Rattle.std.specs.Prelude.{◌≡◌, ◌≤◌, ◌↔◌, ◌⊎◌, ◌++◌, ℕ, List, [], IsTrue, IfOk, IfSome, OnOk};
 ghost use Rattle.model.specs.declared.end.Limits.{Limits as RunLimits};
 ghost use Rattle.model.specs.declared.entry.Entry.{Entry as JournalEntry};
 ghost use Rattle.design.specs.Compiled.{Compiled, design_of};
@@ -8,7 +8,7 @@ ghost use Rattle.loose.specs.declared.transition.LooseTransition.{LooseTransitio
 ghost use Rattle.loose.specs.Classes.{class_in};
 ghost use Rattle.wavetexts.specs.Reading.{text_with, unread};
 ghost use Rattle.lawful.specs.ArrangedNodes.{tail_at};
-ghost use Rattle.lawful.specs.Journals.{IsTextAmong};
+ghost use Rattle.lawful.specs.Journals.{IsKnownJournal, IsTextAmong};
 ghost use Rattle.lawful.specs.LooseNodes.{searched_runs};
 ghost use Rattle.lawful.specs.declared.node.LooseNode.{LooseNode as Node};
 
@@ -142,11 +142,50 @@ pub(crate) trait RunTelling: Drop {
     ghost endless: { (telling : Self) (code : Compiled) (class : ℕ → ℕ) (limits : RunLimits) (run : List Transition) → IsEndless (runs telling code class limits) run → IsEndless (searched_runs code class limits) run };
 }
 
-/// Of a run its lines are told, and how it ends.
+/// Of a run its lines are told, and how it ends. Of some texts and ends a journal is known before.
 #[derive(Clone, Copy)]
-pub(crate) struct LinesAlone;
+pub(crate) struct LinesAlone<'a> {
+    pub(crate) known: &'a [Shown<Entry, End>],
+}
 
-impl RunTelling for LinesAlone {
+// Whether what is known has this text and this end.
+fn is_same(one: &Shown<Entry, End>, text: &[u8], end: End) -> bool
+    ensures { IsTrue result → (one.now.text.items ≡ text.now) × (one.now.end ≡ end) }
+{
+    if one.end != end {
+        return false;
+    }
+    one.text.as_slice() == text
+}
+
+// The entries of a journal, once more. Fails where memory is refused.
+fn copied(alloc: Global, journal: &[Entry]) -> Result<Vec<Entry>, AllocError>
+    ensures { IfOk result (λ entries. entries.items ≡ journal.now) }
+{
+    let mut entries = Vec::new(alloc);
+    entries.extend_from_slice(journal)?;
+    Ok(entries)
+}
+
+// The journal that is known of a text and an end. None where none is known. Fails where memory is refused.
+fn known_journal(
+    alloc: Global,
+    known: &[Shown<Entry, End>],
+    text: &[u8],
+    end: End,
+) -> Result<Option<Vec<Entry>>, AllocError>
+    ensures { IfOk result (λ found. IfSome found (λ journal. IsKnownJournal known.now text.now end journal.items)) }
+{
+    for one in known.iter() {
+        if is_same(one, text, end) {
+            let journal = copied(alloc, one.moves.as_slice())?;
+            return Ok(Some(journal));
+        }
+    }
+    Ok(None)
+}
+
+impl RunTelling for LinesAlone<'_> {
     ghost use Rattle.std.specs.Prelude.{refl};
     ghost use Rattle.model.specs.Texts.{AreAllTexts};
     ghost use Rattle.statekeys.specs.ClassKeys.{IsClassKey};
@@ -161,7 +200,7 @@ impl RunTelling for LinesAlone {
 
     ghost sight = { λ _ _. [] };
 
-    ghost is_journal = { λ _ code limits text end journal. IsJournalOf code limits text end journal };
+    ghost is_journal = { λ telling code limits text end journal. IsJournalOf code limits text end journal ⊎ IsKnownJournal telling.known.now text end journal };
 
     ghost are_all = { λ _ code limits told. AreAllTexts (design_of code) limits (IsTextAmong told) };
 
@@ -212,13 +251,17 @@ impl RunTelling for LinesAlone {
         *a == *b
     }
 
+    // A journal that is known is taken, so that none is led.
     fn journal(&self, scope: LeadScope<'_>, shown: &ShownLoosely<End>) -> FoundJournal {
         let run = LooseRun {
             moves: shown.moves.as_slice(),
             text: shown.text.as_slice(),
             end: shown.end,
         };
-        lawful_journal(scope, run)
+        match known_journal(scope.alloc, self.known, run.text, run.end)? {
+            Some(journal) => Ok(Some(journal)),
+            None => lawful_journal(scope, run),
+        }
     }
 
     ghost stands_loosely = { λ _ code class limits node run at. at };

@@ -28,14 +28,18 @@ pub fn copy_of<'d>(alloc: Global, machine: &Machine<'d>) -> Result<Box<Machine<'
     Ok(boxed)
 }
 
-/// How many events are to come and how many lines are, which a copy and a key are as long as.
-pub(crate) fn pending(machine: &Machine<'_>) -> usize {
+// How many steps are made for each event to come and each line, which a copy and a key are as long as.
+const STEPS_PER_EVENT: usize = 4;
+
+/// How many steps a walk makes for one copy of its machine or one key of it, where these are long.
+pub(crate) fn steps_for_copy(machine: &Machine<'_>) -> usize {
     let state = machine.state();
     state
         .future_updates()
         .len()
         .saturating_add(state.future_evaluations().len())
         .saturating_add(state.monitor().len())
+        .saturating_mul(STEPS_PER_EVENT)
 }
 
 impl<'d> Walk<'d> {
@@ -61,14 +65,13 @@ impl<'d> Walk<'d> {
         !self.since.is_empty()
     }
 
-    // Takes the checkpoint out of a walk. It is let go where the walk made more moves since than a copy is long: another copy takes no longer
-    // than those moves.
+    // Takes the checkpoint out of a walk. It is let go where the walk made so many moves since that another copy takes less long than they do.
     fn near_checkpoint(&mut self, machine: &Machine<'_>) -> Option<Box<Machine<'d>>>
         ensures there { IfSome result (λ copy. self.old.checkpoint ≡ Some copy) }
         ensures rest { self.new ≡ record self.old { checkpoint = None } }
     {
         let checkpoint = self.checkpoint.take();
-        if self.since.len() <= pending(machine) {
+        if self.since.len() <= steps_for_copy(machine) {
             checkpoint
         } else {
             None

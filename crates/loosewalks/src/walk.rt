@@ -13,7 +13,7 @@ ghost use Rattle.loosewalks.specs.TimeStops.{StillPassesTimeFirst};
 
 use crate::active::only_entry;
 use crate::attempt::go_by;
-use crate::checkpoint::{Walk, pending};
+use crate::checkpoint::{Walk, steps_for_copy};
 use crate::room::{LooseRoom, WalkScope};
 use crate::rules::{WalkRules, WalkStops};
 use crate::taking::not_taken;
@@ -24,11 +24,9 @@ use regions::Machine;
 use settling::AnalyzedDesign;
 use std::alloc::{AllocError, Global};
 
-// The most steps of one walk where little is pending: a search looks for a state that it has seen at the end of each.
+// The most steps of one walk where little is pending: a search looks for a state that it has seen at the end of each. Where that takes long, since
+// much is pending, a walk makes more steps.
 const MOST_STEPS: usize = 256;
-
-// To look for such a state takes as long as all that is pending: so a walk may have these steps for each event of that.
-const STEPS_PER_EVENT: usize = 4;
 
 // The ways that are tried, one after another, until one stands for all.
 const WAYS: [WayThrough; 6] = [
@@ -145,7 +143,7 @@ pub fn walk_loosely(
         rules,
     };
     let mut walk = Walk::new(alloc);
-    let most = MOST_STEPS.max(pending(machine).saturating_mul(STEPS_PER_EVENT));
+    let most = MOST_STEPS.max(steps_for_copy(machine));
     for _ in 0..most {
         if !go_on(scope, room, &mut walk, machine)? {
             return walk.into_moves();

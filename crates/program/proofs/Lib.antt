@@ -6,6 +6,7 @@ pub mod Ended
 pub mod Endings
 pub mod Explained
 pub mod Few
+pub mod Followed
 pub mod Knowing
 pub mod Sampled
 pub mod Searched

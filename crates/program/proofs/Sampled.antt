@@ -19,6 +19,8 @@ use Rattle.runs.specs.declared.run.RunRecord.{RunRecord}
 use Rattle.verdict.specs.declared.claim.SearchStop.{SearchStop}
 use Rattle.verdict.specs.declared.claim.Claim.TheVariants.{Sampled}
 use Rattle.arguments.specs.declared.search_options.SearchOptions.{SearchOptions}
+use Rattle.program.specs.FollowedOrders.{AreTextsFollowed}
+use Rattle.program.proofs.Followed.{unmet}
 use Rattle.program.specs.Findings.{AreAllAmong, AreFound, IsFound, IsLawfulShown, IsRunShownBehind, IsSampleStop, IsShownRun, IsShownWanted, IsWantedRun, OnTexts, limits_in, sampled_stop}
 use Rattle.program.proofs.Knowing.{all_of_each, run_lawful}
 
@@ -130,7 +132,7 @@ pub samples_found : (code : Compiled) (search_options : SearchOptions) (made ask
     → told ≡ sampled_stop search_options stop added → (stop ≡ Some sample_stop.Kept → length rs ≡ search_options.max_texts) → length rs ≤ made → All (IsRun code (limits_in search_options)) rs → AreSampled code (limits_in search_options) search_options.seed made rs
     → (IsTrue all → known ≡ []) → All (λ s. Any (λ x. IsShownWanted all x s) rs) others → All (λ x. IsWantedRun all x → IsShown others (string_bytes x.lines) x.end) rs → All (IsLawfulShown code (limits_in search_options)) known → All (λ s. Contains known s ⊎ Contains others s) ss
     → (IsTrue added → All (λ s. IsShown ss s.text.items s.end) others) → (added ≡ false → length ss ≡ search_options.max_texts) → AllPairs AreDistinct ss → length ss ≤ search_options.max_texts
-    → AreFound code search_options (Sampled (record { made = made; asked = asked; stop = told })) ss None
+    → AreFound code search_options (Sampled (record { made = made; asked = asked; stop = told })) None ss None
 samples_found code search_options made asked stop told all added rs known others ss some few whole tells kept less h sampled none from there lawful each put full distinct short = record {
   sound =
       all_of_each (IsFound (Sampled (record { made = made; asked = asked; stop = told })) code (limits_in search_options)) known others ss each
@@ -154,6 +156,7 @@ samples_found code search_options made asked stop told all added rs known others
         (stop_full search_options ((length rs ≡ search_options.max_texts) ⊎ (length ss ≡ search_options.max_texts)) stop added (λ is. inl (kept is)) (λ is. inr (full is)));
   };
   numbered = refl;
+  followed = λ met. unmet (AreTextsFollowed code (limits_in search_options) search_options.max_texts ss None) met;
 }
   where
     of_run : (s : Shown Entry End) → Any (λ x. IsShownWanted all x s) rs → IsLawfulShown code (limits_in search_options) s ⊎ ((run : RunRecord) × IsShownRun run s × IsRun code (limits_in search_options) run)

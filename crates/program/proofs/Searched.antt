@@ -31,7 +31,8 @@ use Rattle.files.specs.Saved.{IsHeld, KeepsFiles, MadeFile, SavesAllWhereAsked, 
 use Rattle.arguments.specs.declared.search_options.SearchOptions.{SearchOptions}
 use Rattle.program.specs.declared.finding.SearchFinding.{SearchFinding}
 use Rattle.program.specs.declared.fault.CommandFault.{CommandFault}
-use Rattle.program.specs.Findings.{AreFound, AreOfSeeds, AreRacesKnown, IsFound, IsLawfulShown, IsClaimWithin, HaveSomeEnds, OnEvery, OnSampled, claim_of, endless_number, endings_of, finding_of, first_text, have_stops, journals_of, limits_in, search_stop_of, stops_from, unless_stopped, until_line}
+use Rattle.program.specs.FollowedOrders.{AreTextsFollowed}
+use Rattle.program.specs.Findings.{AreFound, AreOfSeeds, AreRacesKnown, IsFound, IsLawfulShown, IsClaimWithin, HaveSomeEnds, OnEvery, OnSampled, claim_of, endless_number, endings_of, finding_of, first_text, have_stops, journals_of, limits_in, met_limit, search_stop_of, stops_from, unless_stopped, until_line}
 use Rattle.program.specs.declared.racing.NamedRaces.{NamedRaces}
 use Rattle.program.specs.declared.racing.ToldRaces.{ToldRaces}
 use Rattle.program.specs.Printed.{HasFound, HasLeft, HasShown, IsReachTold, IsSaidLast, IsToldFirst, IsToldLast, IsToldMore}
@@ -137,15 +138,15 @@ lawful_within : (code : Compiled) (limits : Limits) (ss : List (Shown Entry End)
 lawful_within code limits ss sound within k d lt = (sound k d lt, within k d lt)
 
 -- what a search found is put behind texts that are known
-pub searched_found : {J E : Type 0} (items : J → List Entry) (code : Compiled) (search_options : SearchOptions) (s t : Option Stopped) (nodes : ℕ) (found told : Option J) (number : Option ℕ) (claim : Claim) (added : Result Bool E) (known others ss : List (Shown Entry End))
+pub searched_found : {J E : Type 0} (items : J → List Entry) (code : Compiled) (search_options : SearchOptions) (s t : Option Stopped) (nodes : ℕ) (found told : Option J) (number : Option ℕ) (claim : Claim) (added : Result Bool E) (before : Option ℕ) (known others ss : List (Shown Entry End))
     → search_options.samples ≡ None → nodes ≤ search_options.max_states → claim ≡ claim_of search_options t nodes number → t ≡ search_stop_of s added → told ≡ unless_stopped t found → number ≡ option_map (λ j. length ss + 1) told
     → All (λ o. IsLawfulText (design_of code) (limits_in search_options) o.moves.items o.text.items o.end) others → All (λ o. orders.IsWithinLimits (limits_in search_options) o.moves.items) others
     → AllPairs AreDistinct others → (s ≡ Some stopped.Shown → length others ≡ search_options.max_texts) → (s ≡ None → AreAllTexts (design_of code) (limits_in search_options) (IsShown others)) → IfSome found (λ j. orders.IsEndlessJournal (design_of code) (limits_in search_options) (items j))
     → All (IsLawfulShown code (limits_in search_options)) known → All (λ s. Contains known s ⊎ Contains others s) ss
     → IfOk added (λ all. IsTrue all → All (λ o. IsShown ss o.text.items o.end) others) → IfOk added (λ all. all ≡ false → length ss ≡ search_options.max_texts) → AllPairs AreDistinct ss → length ss ≤ search_options.max_texts
-    → AreFound code search_options claim ss (option_map items told)
-searched_found items code search_options s t nodes found told number claim added known others ss none few claimed stops tells counted sound within apart most all never lawful more there full distinct short =
-    subst (λ (c : Claim). AreFound code search_options c ss (option_map items told)) (sym claimed) (record {
+    → (met_limit claim ≡ true → AreTextsFollowed code (limits_in search_options) search_options.max_texts ss before) → AreFound code search_options claim before ss (option_map items told)
+searched_found items code search_options s t nodes found told number claim added before known others ss none few claimed stops tells counted sound within apart most all never lawful more there full distinct short followed =
+    subst (λ (c : Claim). AreFound code search_options c before ss (option_map items told)) (sym claimed) (record {
       sound = claim_sound search_options t nodes number code (limits_in search_options) ss (all_of_each (IsLawfulShown code (limits_in search_options)) known others ss more (lawful_within code (limits_in search_options) others sound within) lawful);
       distinct = distinct;
       few = short;
@@ -154,6 +155,7 @@ searched_found items code search_options s t nodes found told number claim added
       never = told_never items (orders.IsEndlessJournal (design_of code) (limits_in search_options)) t found told tells never;
       seeds = claim_seeds (AreOfSeeds code (limits_in search_options) search_options.seed search_options.max_texts ss) search_options t nodes number;
       numbered = claim_number items search_options t nodes (length ss) found told number tells counted;
+      followed = λ met. followed (ap met_limit claimed ∙ met);
     })
   where
     every : (s ≡ None) × (added ≡ Ok true) → AreAllTexts (design_of code) (limits_in search_options) (IsShown ss)
@@ -177,10 +179,9 @@ pub tells_more_alone : (source : List ℕ) (code : Compiled) (shown : List (Show
 tells_more_alone source code shown prefix race_bounds found before causes empty lines none h = subst (TellsMore source code shown prefix race_bounds found before causes) (sym (h.new_is ∙ ap (λ l. l ++ h.lines) none)) h.tells
 
 -- what is told of texts behind a search: further races, and then what is said of the texts
-pub record IsToldBehind (source : List ℕ) (code : Compiled) (search_options : SearchOptions) (prefix : Option (List ℕ)) (races : NamedRaces) (claim : Claim) (shown : List (Shown Entry End)) (last : List ℕ) : Type 0 where
+pub record IsToldBehind (source : List ℕ) (code : Compiled) (search_options : SearchOptions) (prefix : Option (List ℕ)) (races : NamedRaces) (claim : Claim) (before : Option ℕ) (shown : List (Shown Entry End)) (last : List ℕ) : Type 0 where
   pub more : List ℕ
   pub is_more : IsToldMore source code search_options prefix races shown more
-  pub before : Option ℕ
   pub said : List ℕ
   pub is_said : IsSaidLast source search_options prefix races.found.original.end claim before shown said
   pub last_is : last ≡ more ++ said
@@ -195,11 +196,10 @@ pub early_answered : (source : List ℕ) (code : Compiled) (search_options : Sea
 early_answered source code search_options prefix early a b (first, is_first, begins) many = is_first.answered (subst (λ (n : ℕ). 1 < n) is_first.texts many)
 
 pub told_behind : (source : List ℕ) (code : Compiled) (search_options : SearchOptions) (prefix : Option (List ℕ)) (races : NamedRaces) (claim : Claim) (before : Option ℕ) (shown texts : List (Shown Entry End)) (more said lines last : List ℕ) → texts ≡ shown
-    → IsToldMore source code search_options prefix races texts more → IsSaidLast source search_options prefix races.found.original.end claim before shown said → lines ≡ said → last ≡ more ++ lines → IsToldBehind source code search_options prefix races claim shown last
+    → IsToldMore source code search_options prefix races texts more → IsSaidLast source search_options prefix races.found.original.end claim before shown said → lines ≡ said → last ≡ more ++ lines → IsToldBehind source code search_options prefix races claim before shown last
 told_behind source code search_options prefix races claim before shown texts more said lines last same told is_said are is = record {
   more = more;
   is_more = subst (λ (ss : List (Shown Entry End)). IsToldMore source code search_options prefix races ss more) same told;
-  before = before;
   said = said;
   is_said = is_said;
   last_is = is ∙ ap (λ l. more ++ l) are;
@@ -237,30 +237,30 @@ told_last search_options prefix end claim texts shown ends endings first stops e
       text_is = is ∙ (ap (λ (l : List ℕ). middle ++ l) until ∙ ap (λ (l : List ℕ). l ++ until_line search_options.until claim end) said);
     })
 
-found_behind : (source : List ℕ) (code : Compiled) (search_options : SearchOptions) (prefix : Option (List ℕ)) (early : ToldRaces) (claim : Claim) (shown : List (Shown Entry End)) (endless : Option (List Entry)) (last : List ℕ) → AreFound code search_options claim shown endless
-    → Extends early.known.items shown → AreRacesKnown search_options.max_texts early.races.found early.known.items → IsToldBehind source code search_options prefix early.races claim shown last → HasFound source code search_options prefix early last
-found_behind source code search_options prefix early claim shown endless last are_found grown known is_last = record {
+found_behind : (source : List ℕ) (code : Compiled) (search_options : SearchOptions) (prefix : Option (List ℕ)) (early : ToldRaces) (claim : Claim) (before : Option ℕ) (shown : List (Shown Entry End)) (endless : Option (List Entry)) (last : List ℕ) → AreFound code search_options claim before shown endless
+    → Extends early.known.items shown → AreRacesKnown search_options.max_texts early.races.found early.known.items → IsToldBehind source code search_options prefix early.races claim before shown last → HasFound source code search_options prefix early last
+found_behind source code search_options prefix early claim before shown endless last are_found grown known is_last = record {
   claim = claim;
   shown = shown;
   endless = endless;
+  before = before;
   are_found = are_found;
   grown = grown;
   races_known = races_still search_options.max_texts early.races.found early.known.items shown grown are_found.few known;
   more = is_last.more;
   is_more = is_last.is_more;
-  before = is_last.before;
   said = is_last.said;
   is_said = is_last.is_said;
   last_is = is_last.last_is;
 }
 
 -- a search that was told first and last, with the journals of what was found
-pub search_shown : (holding : Option (List ℕ → List ℕ)) (file : List ℕ) (source : List ℕ) (code : Compiled) (search_options : SearchOptions) (prefix : Option (List ℕ)) (early : ToldRaces) (claim : Claim) (shown : List (Shown Entry End)) (endless : Option (List Entry)) (a b c : Option (List ℕ))
+pub search_shown : (holding : Option (List ℕ → List ℕ)) (file : List ℕ) (source : List ℕ) (code : Compiled) (search_options : SearchOptions) (prefix : Option (List ℕ)) (early : ToldRaces) (claim : Claim) (before : Option ℕ) (shown : List (Shown Entry End)) (endless : Option (List Entry)) (a b c : Option (List ℕ))
     (files tried files' : Option (List MadeFile)) (last : List ℕ) (found : SearchFinding) → IsHeld holding file source → IsDesignOf source code → ((first : List ℕ) × IsToldFirst source code search_options prefix early first × Appends a b first)
-    → AreFound code search_options claim shown endless → Extends early.known.items shown → IsToldBehind source code search_options prefix early.races claim shown last → Appends b c last → KeepsFiles files tried → SavesAllWhereAsked tried files' prefix (journals_of shown endless)
+    → AreFound code search_options claim before shown endless → Extends early.known.items shown → IsToldBehind source code search_options prefix early.races claim before shown last → Appends b c last → KeepsFiles files tried → SavesAllWhereAsked tried files' prefix (journals_of shown endless)
     → found ≡ finding_of claim (length shown) (have_stops shown) early.refused → HasShown holding file search_options prefix a c files files' found
 unfolding found_behind
-search_shown holding file source code search_options prefix early claim shown endless a b c files tried files' last found held is_design (first, is_first, begins) are_found grown is_last ends kept saved is = record {
+search_shown holding file source code search_options prefix early claim before shown endless a b c files tried files' last found held is_design (first, is_first, begins) are_found grown is_last ends kept saved is = record {
   source = source;
   held = held;
   design = code;
@@ -269,7 +269,7 @@ search_shown holding file source code search_options prefix early claim shown en
   first = first;
   is_first = is_first;
   last = last;
-  has_found = found_behind source code search_options prefix early claim shown endless last are_found grown is_first.are_known.races is_last;
+  has_found = found_behind source code search_options prefix early claim before shown endless last are_found grown is_first.are_known.races is_last;
   printed = appends_then a b c first last begins ends;
   saved = all_saved_on files tried files' prefix (journals_of shown endless) kept saved;
   finding = is;
@@ -290,12 +290,12 @@ search_begun holding file source code search_options prefix early a b files file
 })
 
 -- a search that was told first and last, and whose journals may not all have been saved
-pub search_left : (holding : Option (List ℕ → List ℕ)) (file : List ℕ) (source : List ℕ) (code : Compiled) (search_options : SearchOptions) (prefix : Option (List ℕ)) (early : ToldRaces) (claim : Claim) (shown : List (Shown Entry End)) (endless : Option (List Entry)) (a b c : Option (List ℕ))
+pub search_left : (holding : Option (List ℕ → List ℕ)) (file : List ℕ) (source : List ℕ) (code : Compiled) (search_options : SearchOptions) (prefix : Option (List ℕ)) (early : ToldRaces) (claim : Claim) (before : Option ℕ) (shown : List (Shown Entry End)) (endless : Option (List Entry)) (a b c : Option (List ℕ))
     (files tried files' : Option (List MadeFile)) (last : List ℕ) → IsHeld holding file source → IsDesignOf source code → ((first : List ℕ) × IsToldFirst source code search_options prefix early first × Appends a b first)
-    → AreFound code search_options claim shown endless → Extends early.known.items shown → IsToldBehind source code search_options prefix early.races claim shown last → KeepsFiles files tried
+    → AreFound code search_options claim before shown endless → Extends early.known.items shown → IsToldBehind source code search_options prefix early.races claim before shown last → KeepsFiles files tried
     → (Keeps b c × SavesSomeWhereAsked tried files' prefix (journals_of early.known.items None)) ⊎ (Appends b c last × SavesSomeWhereAsked tried files' prefix (journals_of shown endless)) → HasLeft holding file search_options prefix a c files files'
 unfolding found_behind
-search_left holding file source code search_options prefix early claim shown endless a b c files tried files' last held is_design (first, is_first, begins) are_found grown is_last kept (inl (same, saved)) = inr (record {
+search_left holding file source code search_options prefix early claim before shown endless a b c files tried files' last held is_design (first, is_first, begins) are_found grown is_last kept (inl (same, saved)) = inr (record {
   source = source;
   held = held;
   design = code;
@@ -305,7 +305,7 @@ search_left holding file source code search_options prefix early claim shown end
   is_first = is_first;
   left = inl (appends_kept a b c first begins same, some_saved_on files tried files' prefix (journals_of early.known.items None) kept saved);
 })
-search_left holding file source code search_options prefix early claim shown endless a b c files tried files' last held is_design (first, is_first, begins) are_found grown is_last kept (inr (ends, saved)) = inr (record {
+search_left holding file source code search_options prefix early claim before shown endless a b c files tried files' last held is_design (first, is_first, begins) are_found grown is_last kept (inr (ends, saved)) = inr (record {
   source = source;
   held = held;
   design = code;
@@ -315,7 +315,7 @@ search_left holding file source code search_options prefix early claim shown end
   is_first = is_first;
   left = inr (record {
     last = last;
-    has_found = found_behind source code search_options prefix early claim shown endless last are_found grown is_first.are_known.races is_last;
+    has_found = found_behind source code search_options prefix early claim before shown endless last are_found grown is_first.are_known.races is_last;
     printed = appends_then a b c first last begins ends;
     saved = some_saved_on files tried files' prefix (journals_of shown endless) kept saved;
   });

@@ -21,7 +21,8 @@ use Rattle.std.proofs.lemmas.List.Elements.{All-nil, All-cons, All-head, All-tai
 use Rattle.arguments.specs.declared.search_options.SearchOptions.{SearchOptions}
 use Rattle.arguments.specs.declared.observed.Observed.{Observed}
 use Rattle.files.specs.Saved.{IsHeld, KeepsFiles, MadeFile, SavesAllWhereAsked, SavesSomeWhereAsked}
-use Rattle.program.specs.Findings.{OnEvery, endless_number, endings_of, finding_of, first_text, have_stops, journals_of, limits_in, search_stop_of, stops_from, unless_stopped}
+use Rattle.program.specs.FollowedOrders.{AreWavesFollowed}
+use Rattle.program.specs.Findings.{OnEvery, endless_number, endings_of, finding_of, first_text, have_stops, journals_of, limits_in, met_limit, search_stop_of, stops_from, unless_stopped}
 use Rattle.program.specs.Observed.{AreAllWaves, AreFoundWaves, AreRegistersAsked, AreRegistersOf, AreWavesSaid, HasFoundWaves, HasLeftWaves, HasNoRegister, HasObserved, HasArrangedTexts, HasSaidWaves, HasSavedWaves, IsLawfulWave, IsNameTold, IsObservedEnding, IsWaveClaimWithin, observer_of_registers, observes_all, texts_bound, wave_claim_of, before_line}
 use Rattle.program.specs.declared.ending.Ending.{Ending}
 use Rattle.program.specs.declared.ending.Ending.TheVariants as ending
@@ -112,21 +113,22 @@ waves_sound code limits registers before ss others none each lawful k d lt = by_
     by_case w (inl (i, within, at)) = absurd (none_below i (subst (λ (l : List (Shown Entry End)). i < length l) none within))
     by_case w (inr (i, o, within, at, is)) = lawful i o within w (subst (λ (x : Shown Entry SeenEnd). IsWaveOfText x w) (sym at) is)
 
-pub waves_found : {J E : Type 0} (items : J → List Entry) (code : Compiled) (search_options : SearchOptions) (registers : List ℕ) (observe : Observer) (seen_registers : ℕ) (s t : Option Stopped) (nodes : ℕ) (found told : Option J) (number : Option ℕ) (claim : Claim) (added : Result Bool E)
+pub waves_found : {J E : Type 0} (items : J → List Entry) (code : Compiled) (search_options : SearchOptions) (registers : List ℕ) (observe : Observer) (seen_registers : ℕ) (s t : Option Stopped) (nodes : ℕ) (found told : Option J) (number : Option ℕ) (claim : Claim) (added : Result Bool E) (followed : Option ℕ)
     (others : List (Shown Entry SeenEnd)) (before ss : List (Shown Entry End)) → observe ≡ observer_of_registers registers → seen_registers ≡ length registers → nodes ≤ search_options.max_states → claim ≡ wave_claim_of search_options t nodes number (length ss) → t ≡ search_stop_of s added → told ≡ unless_stopped t found
     → number ≡ option_map (λ j. length ss + 1) told → All (λ o. IsArrangedText (design_of code) (limits_in search_options) seen_registers observe o.moves.items o.text.items o.end) others → All (λ o. orders.IsWithinLimits (limits_in search_options) o.moves.items) others
     → (s ≡ None → AreAllObservedTexts (design_of code) (limits_in search_options) observe (λ text end. Any (λ x. IsArrangementOf seen_registers text end x.text.items x.end) others)) → IfSome found (λ j. orders.IsEndlessJournal (design_of code) (limits_in search_options) (items j))
     → before ≡ [] → All (λ w. Contains before w ⊎ Any (λ o. IsWaveOfText o w) others) ss
     → AllPairs AreDistinct others → (s ≡ Some stopped.Shown → length others ≡ texts_bound search_options.max_texts) → IfOk added (λ all. all ≡ false → length ss ≡ search_options.max_texts)
     → IfOk added (λ all. IsTrue all → All (λ o. IsShown ss (o.text.items ++ o.end.seen) o.end.end) others) → AllPairs AreDistinct ss → length ss ≤ search_options.max_texts
-    → AreFoundWaves code search_options registers claim ss (option_map items told)
-waves_found items code search_options registers observe seen_registers s t nodes found told number claim added others before ss sees counts few claimed stops tells counted sound within all never none each apart most full there distinct short =
+    → (met_limit claim ≡ true → AreWavesFollowed code (limits_in search_options) (observer_of_registers registers) (length registers) search_options.max_texts ss followed)
+    → AreFoundWaves code search_options registers claim followed ss (option_map items told)
+waves_found items code search_options registers observe seen_registers s t nodes found told number claim added followed others before ss sees counts few claimed stops tells counted sound within all never none each apart most full there distinct short reached =
     let limits = limits_in search_options in
     let there_seen = subst (λ (o : Observer). All (λ x. IsArrangedText (design_of code) limits seen_registers o x.moves.items x.text.items x.end) others) sees sound in
     let seen = subst (λ (n : ℕ). All (λ x. IsArrangedText (design_of code) limits n (observer_of_registers registers) x.moves.items x.text.items x.end) others) counts there_seen in
     let all_seen = subst (λ (o : Observer). s ≡ None → AreAllObservedTexts (design_of code) limits o (λ text end. Any (λ x. IsArrangementOf seen_registers text end x.text.items x.end) others)) sees all in
     let every = subst (λ (n : ℕ). s ≡ None → AreAllObservedTexts (design_of code) limits (observer_of_registers registers) (λ text end. Any (λ x. IsArrangementOf n text end x.text.items x.end) others)) counts all_seen in
-    subst (λ (c : Claim). AreFoundWaves code search_options registers c ss (option_map items told)) (sym claimed) (record {
+    subst (λ (c : Claim). AreFoundWaves code search_options registers c followed ss (option_map items told)) (sym claimed) (record {
       sound = waves_sound code limits registers before ss others none each (waves_lawful code limits registers others seen within);
       distinct = distinct;
       few = short;
@@ -139,6 +141,7 @@ waves_found items code search_options registers observe seen_registers s t nodes
       all = wave_all (AreAllWaves code limits registers ss) search_options t nodes number (length ss) (λ is. put (not_stopped s added (sym stops ∙ is)) every);
       never = told_never items (orders.IsEndlessJournal (design_of code) limits) t found told tells never;
       numbered = wave_number items search_options t nodes (length ss) found told number tells counted;
+      before = λ met. reached (ap met_limit claimed ∙ met);
     })
   where
     put : (s ≡ None) × (added ≡ Ok true) → (s ≡ None → AreAllObservedTexts (design_of code) (limits_in search_options) (observer_of_registers registers) (λ text end. Any (λ x. IsArrangementOf (length registers) text end x.text.items x.end) others)) → AreAllWaves code (limits_in search_options) registers ss
@@ -149,22 +152,22 @@ waves_found items code search_options registers observe seen_registers s t nodes
 -- what was said of waves, where the files were the same before it
 
 pub said_waves : (code : Compiled) (asked : Observed) (search_options : SearchOptions) (prefix : Option (List ℕ)) (registers : List ℕ) (claim : Claim) (followed : Option ℕ) (waves : List (Shown Entry End)) (endless : Option (List Entry)) (said : List ℕ) (old new : Option (List ℕ))
-    → AreRegistersOf code asked registers → AreFoundWaves code search_options registers claim waves endless → AreWavesSaid code asked registers search_options prefix claim followed waves said → Appends old new said → HasSaidWaves code asked search_options prefix old new
+    → AreRegistersOf code asked registers → AreFoundWaves code search_options registers claim followed waves endless → AreWavesSaid code asked registers search_options prefix claim followed waves said → Appends old new said → HasSaidWaves code asked search_options prefix old new
 said_waves code asked search_options prefix registers claim followed waves endless said old new are found told printed = record {
   registers = registers;
   are_registers = are;
   claim = claim;
   waves = waves;
   endless = endless;
-  are_found = found;
   followed = followed;
+  are_found = found;
   said = said;
   are_said = told;
   printed = printed;
 }
 
 pub found_waves : (code : Compiled) (asked : Observed) (search_options : SearchOptions) (prefix : Option (List ℕ)) (registers : List ℕ) (claim : Claim) (followed : Option ℕ) (waves : List (Shown Entry End)) (endless : Option (List Entry)) (said : List ℕ) (old new : Option (List ℕ)) (a b c : Option (List MadeFile)) (f : SearchFinding)
-    → AreRegistersOf code asked registers → AreFoundWaves code search_options registers claim waves endless → AreWavesSaid code asked registers search_options prefix claim followed waves said → Appends old new said → KeepsFiles a b → SavesAllWhereAsked b c prefix (journals_of waves endless)
+    → AreRegistersOf code asked registers → AreFoundWaves code search_options registers claim followed waves endless → AreWavesSaid code asked registers search_options prefix claim followed waves said → Appends old new said → KeepsFiles a b → SavesAllWhereAsked b c prefix (journals_of waves endless)
     → f ≡ finding_of claim (length waves) (have_stops waves) false → HasFoundWaves code asked search_options prefix old new a c f
 unfolding said_waves
 found_waves code asked search_options prefix registers claim followed waves endless said old new a b c f are found told printed before saved is = record {
@@ -175,7 +178,7 @@ found_waves code asked search_options prefix registers claim followed waves endl
 
 -- what is left where a search for waves ended for want of memory
 pub left_waves : (code : Compiled) (asked : Observed) (search_options : SearchOptions) (prefix : Option (List ℕ)) (registers : List ℕ) (claim : Claim) (followed : Option ℕ) (waves : List (Shown Entry End)) (endless : Option (List Entry)) (said : List ℕ) (old new : Option (List ℕ)) (a b c : Option (List MadeFile))
-    → AreRegistersOf code asked registers → AreFoundWaves code search_options registers claim waves endless → AreWavesSaid code asked registers search_options prefix claim followed waves said → KeepsFiles a b
+    → AreRegistersOf code asked registers → AreFoundWaves code search_options registers claim followed waves endless → AreWavesSaid code asked registers search_options prefix claim followed waves said → KeepsFiles a b
     → (Keeps old new × KeepsFiles b c) ⊎ (Appends old new said × SavesSomeWhereAsked b c prefix (journals_of waves endless)) → AreUntouched old new a c ⊎ HasSavedWaves code asked search_options prefix old new a c
 unfolding said_waves
 left_waves code asked search_options prefix registers claim followed waves endless said old new a b c are found told before (inl (same, files)) = inl (same, kept_on a b c before files)

@@ -37,6 +37,7 @@ use Rattle.verdict.specs.declared.claim.Claim.TheVariants.{Every, SoFar, Sampled
 use Rattle.verdict.specs.declared.claim.SearchStop.{SearchStop}
 use Rattle.verdict.specs.declared.claim.SearchStop.TheVariants.{States, Texts, Entries, Megabytes, Memory}
 use Rattle.arguments.specs.declared.search_options.SearchOptions.{SearchOptions}
+use Rattle.program.specs.FollowedOrders.{AreTextsFollowed}
 use Rattle.program.specs.declared.known.KnownTexts.{KnownTexts}
 use Rattle.program.specs.declared.finding.SearchFinding.{SearchFinding}
 use Rattle.program.specs.declared.finding.SearchFinding.TheVariants as finding
@@ -355,8 +356,9 @@ pub record AreOfSeeds (design : Compiled) (limits : Limits) (first most : ℕ) (
 -- Of a design these texts were found, each with its end and a lawful journal in time that has both. No two have one text and
 -- one end, and they are no more than were asked for. Where it is claimed that they are all, each lawful journal in time has its lines and its end among them, but for
 -- ends by the most entries or for want of memory. Where it is claimed that some runs don't come to an end, a lawful journal is known from which none does, and its number is
--- behind those of the texts; else none is told. The claim keeps to what was asked.
-pub record AreFound (design : Compiled) (search_options : SearchOptions) (claim : Claim) (shown : List (Shown Entry End)) (endless : Option (List Entry)) : Type 0 where
+-- behind those of the texts; else none is told. The claim keeps to what was asked. Where it says that the search met a limit, nothing was left out before the time that is told,
+-- if one is.
+pub record AreFound (design : Compiled) (search_options : SearchOptions) (claim : Claim) (before : Option ℕ) (shown : List (Shown Entry End)) (endless : Option (List Entry)) : Type 0 where
   pub sound : All (IsFound claim design (limits_in search_options)) shown
   pub distinct : AllPairs AreDistinct shown
   pub few : length shown ≤ search_options.max_texts
@@ -365,6 +367,7 @@ pub record AreFound (design : Compiled) (search_options : SearchOptions) (claim 
   pub never : IfSome endless (orders.IsEndlessJournal (design_of design) (limits_in search_options))
   pub seeds : OnSampled claim (AreOfSeeds design (limits_in search_options) search_options.seed search_options.max_texts shown)
   pub numbered : endless_number claim ≡ option_map (λ journal. length shown + 1) endless
+  pub followed : met_limit claim ≡ true → AreTextsFollowed design (limits_in search_options) search_options.max_texts shown before
 
 -- the first text, if there is one
 abbrev pub first_text : List (Shown Entry End) → List ℕ

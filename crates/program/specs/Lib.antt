@@ -1,6 +1,7 @@
 pub mod Presentations
 pub mod EarlyJournals
 pub mod RegisterOptions
+pub mod FollowedOrders
 pub mod Findings
 pub mod ProgramLines
 pub mod Observed

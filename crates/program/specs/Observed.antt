@@ -33,6 +33,7 @@ use Rattle.frontend.specs.Sources.{IsDesignOf}
 use Rattle.program.specs.declared.ending.Ending.{Ending}
 use Rattle.program.specs.declared.ending.Ending.TheVariants as ending
 use Rattle.program.specs.declared.finding.SearchFinding.{SearchFinding}
+use Rattle.program.specs.FollowedOrders.{AreWavesFollowed}
 use Rattle.program.specs.Findings.{OnEvery, claim_of, endings_of, endless_number, finding_of, first_text, have_stops, journals_of, limits_in, stops_from, met_limit}
 
 -- what is seen of a state where these registers are observed
@@ -114,8 +115,8 @@ IsWaveClaimWithin code search_options registers count (Sampled orders) = ⊥
 -- Of a design these waves were found, each with its end and a lawful journal in time that has both. No two are one wave with one end, and they are no more than were asked
 -- for. Where it is claimed that they are all, each lawful journal in time has its wave and its end among them, but for ends by the most entries or for want of memory. Where it is
 -- claimed that some runs don't come to an end, a lawful journal is known from which none does, and its number is behind those of the waves; else none is told. The claim
--- keeps to what was asked.
-pub record AreFoundWaves (design : Compiled) (search_options : SearchOptions) (registers : List ℕ) (claim : Claim) (waves : List (Shown Entry End)) (endless : Option (List Entry)) : Type 0 where
+-- keeps to what was asked. Where it says that the search met a limit, nothing was left out before the time that is told, if one is.
+pub record AreFoundWaves (design : Compiled) (search_options : SearchOptions) (registers : List ℕ) (claim : Claim) (followed : Option ℕ) (waves : List (Shown Entry End)) (endless : Option (List Entry)) : Type 0 where
   pub sound : All (IsLawfulWave design (limits_in search_options) registers) waves
   pub distinct : AllPairs AreDistinct waves
   pub few : length waves ≤ search_options.max_texts
@@ -123,6 +124,8 @@ pub record AreFoundWaves (design : Compiled) (search_options : SearchOptions) (r
   pub all : OnEvery claim (AreAllWaves design (limits_in search_options) registers waves)
   pub never : IfSome endless (orders.IsEndlessJournal (design_of design) (limits_in search_options))
   pub numbered : endless_number claim ≡ option_map (λ journal. length waves + 1) endless
+  pub before :
+      met_limit claim ≡ true → AreWavesFollowed design (limits_in search_options) (observer_of_registers registers) (length registers) search_options.max_texts waves followed
 
 -- the line on this time before which all orders were followed, where it is claimed that a search met a limit
 abbrev pub followed_at_limit : Claim → ℕ → List ℕ
@@ -147,8 +150,8 @@ pub record HasSaidWaves (design : Compiled) (asked : Observed) (search_options :
   pub claim : Claim
   pub waves : List (Shown Entry End)
   pub endless : Option (List Entry)
-  pub are_found : AreFoundWaves design search_options registers claim waves endless
   pub followed : Option ℕ
+  pub are_found : AreFoundWaves design search_options registers claim followed waves endless
   pub said : List ℕ
   pub are_said : AreWavesSaid design asked registers search_options prefix claim followed waves said
   pub printed : Appends old new said

@@ -190,12 +190,12 @@ pub record HasFound (source : List ℕ) (design : Compiled) (search_options : Se
   pub claim : Claim
   pub shown : List (Shown Entry End)
   pub endless : Option (List Entry)
-  pub are_found : AreFound design search_options claim shown endless
+  pub before : Option ℕ
+  pub are_found : AreFound design search_options claim before shown endless
   pub grown : Extends early.known.items shown
   pub races_known : AreRacesKnown search_options.max_texts early.races.found shown
   pub more : List ℕ
   pub is_more : IsToldMore source design search_options prefix early.races shown more
-  pub before : Option ℕ
   pub said : List ℕ
   pub is_said : IsSaidLast source search_options prefix early.races.found.original.end claim before shown said
   pub last_is : last ≡ more ++ said

@@ -173,7 +173,7 @@ fn find_waves<P: Progress>(
     progress: &P,
 ) -> Result<FoundTexts, AllocError>
     requires { CanSearch search_options }
-    ensures { IfOk result (λ waves. AreFoundWaves design.now search_options registers.now waves.claim waves.shown.items (option_map (λ journal. journal.items) waves.endless)) }
+    ensures { IfOk result (λ waves. AreFoundWaves design.now search_options registers.now waves.claim waves.followed_before waves.shown.items (option_map (λ journal. journal.items) waves.endless)) }
 {
     let observing = observing_of(alloc, registers)?;
     let limits = Limits {

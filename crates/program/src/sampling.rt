@@ -35,7 +35,7 @@ pub fn sampled<P: Progress>(
     requires lawful { All (IsLawfulShown design.now (limits_in search_options)) known.items }
     requires distinct { AllPairs AreDistinct known.items }
     requires few { length known.items ≤ search_options.max_texts }
-    ensures found { IfOk result (λ texts. AreFound design.now search_options texts.claim texts.shown.items (option_map (λ journal. journal.items) texts.endless)) }
+    ensures found { IfOk result (λ texts. AreFound design.now search_options texts.claim texts.followed_before texts.shown.items (option_map (λ journal. journal.items) texts.endless)) }
     ensures grown { IfOk result (λ texts. Extends known.items texts.shown.items) }
 {
     let limits = Limits {

@@ -213,7 +213,7 @@ fn find_texts<P: Progress>(
     requires lawful { All (IsLawfulShown design.now (limits_in search_options)) known.items }
     requires distinct { AllPairs AreDistinct known.items }
     requires few { length known.items ≤ search_options.max_texts }
-    ensures found { IfOk result (λ texts. AreFound design.now search_options texts.claim texts.shown.items (option_map (λ journal. journal.items) texts.endless)) }
+    ensures found { IfOk result (λ texts. AreFound design.now search_options texts.claim texts.followed_before texts.shown.items (option_map (λ journal. journal.items) texts.endless)) }
     ensures grown { IfOk result (λ texts. Extends known.items texts.shown.items) }
 {
     match search_options.samples {
@@ -225,7 +225,7 @@ fn find_texts<P: Progress>(
         max_entries: search_options.max_entries,
     };
     let bounds = bounds_of(search_options, search_options.max_texts);
-    let explored = lawful_orders(alloc, design, limits, bounds, progress);
+    let explored = lawful_orders(alloc, design, limits, bounds, &known, progress);
     progress.end();
     let Explored {
         shown: others,

@@ -268,7 +268,7 @@ fn found_of(
         until: Some(row.until),
         max_entries: row.entries,
     };
-    lawful_orders(alloc, design, limits, row.bounds, &Untold)
+    lawful_orders(alloc, design, limits, row.bounds, &[], &Untold)
 }
 
 // Why there may be other texts.

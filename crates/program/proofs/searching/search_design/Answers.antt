@@ -29,7 +29,7 @@ returns-in-Ok-clause-shown g c = λ holding file held.
     let known = c.in_ok-early.early.known.items in
     let endless = option_map (λ journal. journal.items) texts.endless in
     let early = early_on tried between prefix c.as_slice-first.result.now known texts.shown.items saved.count endless saved.fault c.as_slice-first.ensures.value c.save_early-saved.ensures.count c.in_ok-texts.ensures.grown c.save_early-saved.ensures.saved in
-    search_shown holding file c.args.source.now c.args.design.now request.search_options prefix c.in_ok-early.early texts.claim texts.shown.items endless (g.O.Write.contents c.args.out.now) begun end
+    search_shown holding file c.args.source.now c.args.design.now request.search_options prefix c.in_ok-early.early texts.claim texts.followed_before texts.shown.items endless (g.O.Write.contents c.args.out.now) begun end
     (g.F.Files.made c.args.files.now) tried (g.F.Files.made c.tell_texts.new.files) c.in_ok-last.last.items c.finding_of-found.result held c.requires c.in_ok-early.ensures.told c.in_ok-texts.ensures.found c.in_ok-texts.ensures.grown
     (told_behind c.args.source.now c.args.design.now request.search_options prefix c.in_ok-early.early.races texts.claim texts.followed_before texts.shown.items c.as_slice.result.now c.in_ok-more.more.items c.in_ok-said.said.items c.as_slice-2.result.now
     c.in_ok-last.last.items c.as_slice.ensures.value c.in_ok-more.ensures c.in_ok-said.ensures c.as_slice-2.ensures.value c.in_ok-last.ensures) c.in-Ok.ensures.told c.in_ok-try_first.ensures.kept (c.in-Ok.ensures.saved tried early) c.finding_of-found.ensures
@@ -49,7 +49,7 @@ returns-clause-wanting g c = λ holding file held six.
     let endless = option_map (λ journal. journal.items) texts.endless in
     let early = early_on tried between prefix c.as_slice-first.result.now known texts.shown.items saved.count endless saved.fault c.as_slice-first.ensures.value c.save_early-saved.ensures.count c.in_ok-texts.ensures.grown c.save_early-saved.ensures.saved in
     let some = early_some tried between prefix c.as_slice-first.result.now known saved.fault c.as_slice-first.ensures.value c.save_early-saved.ensures.saved in
-    search_left holding file c.args.source.now c.args.design.now request.search_options prefix c.in_ok-early.early texts.claim texts.shown.items endless (g.O.Write.contents c.args.out.now) begun end (g.F.Files.made c.args.files.now) tried after
+    search_left holding file c.args.source.now c.args.design.now request.search_options prefix c.in_ok-early.early texts.claim texts.followed_before texts.shown.items endless (g.O.Write.contents c.args.out.now) begun end (g.F.Files.made c.args.files.now) tried after
     c.in_ok-last.last.items held c.requires c.in_ok-early.ensures.told c.in_ok-texts.ensures.found c.in_ok-texts.ensures.grown
     (told_behind c.args.source.now c.args.design.now request.search_options prefix c.in_ok-early.early.races texts.claim texts.followed_before texts.shown.items c.as_slice.result.now c.in_ok-more.more.items c.in_ok-said.said.items c.as_slice-2.result.now
     c.in_ok-last.last.items c.as_slice.ensures.value c.in_ok-more.ensures c.in_ok-said.ensures c.as_slice-2.ensures.value c.in_ok-last.ensures) c.in_ok-try_first.ensures.kept
