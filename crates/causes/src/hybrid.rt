@@ -7,7 +7,7 @@ ghost use Rattle.conflicts.specs.RunEndings.{IsUnderWay, HasFollowed, HasGoneOn}
 
 use crate::causes::CauseSearch;
 use crate::track::Track;
-use conflicts::{JournaledMachine, RunTransition, repeat, transition_of};
+use conflicts::{JournaledMachine, RunTransitions, process_of, repeat, transition_of};
 use model::end::{End, Why};
 use model::entry::Entry;
 use progress::{Progress, tell_entries};
@@ -62,11 +62,18 @@ impl<P: Progress> Making<'_, P> {
     }
 }
 
-/// A run, and its transitions.
+/// A run, and the process of each of its first entries that is a turn.
 #[derive(Drop)]
 pub(crate) struct TracedRun {
     pub(crate) run: RunRecord,
-    pub(crate) transitions: Vec<RunTransition>,
+    pub(crate) processes: Vec<u32>,
+}
+
+impl TracedRun {
+    /// The transitions of its first entries.
+    pub(crate) fn transitions(&self) -> RunTransitions<'_> {
+        RunTransitions::new(&self.run.journal, &self.processes)
+    }
 }
 
 // Takes an entry, and notes it on a track. The answer is whether it was taken. Fails where memory is refused.
@@ -187,7 +194,7 @@ fn go<P: Progress>(
 pub(crate) fn run_on<P: Progress>(
     setting: HybridSetting<'_>,
     lead: Lead<'_>,
-    along: &[RunTransition],
+    along: RunTransitions<'_>,
     making: &mut Making<'_, P>,
 ) -> Result<Option<RunRecord>, AllocError>
     ensures { IfOk result (λ made. IfSome made (IsRun setting.entry.search.design.now setting.entry.search.limits)) }
@@ -203,21 +210,21 @@ pub(crate) fn run_on<P: Progress>(
     run.told_if(setting.search.alloc, end)
 }
 
-// Takes the entries of a journal, as far as they may be taken, and puts their transitions behind others.
+// Takes the entries of a journal, as far as they may be taken, and puts the processes of their turns behind others.
 fn trace(
     run: &mut JournaledMachine<'_>,
-    transitions: &mut Vec<RunTransition>,
+    processes: &mut Vec<u32>,
     journal: &[Entry],
 ) -> Result<(), AllocError>
     requires { IsUnderWay run.old }
     ensures { HasGoneOn run.old run.new }
 {
     for entry in journal {
-        let taken = transition_of(&run.machine, *entry);
+        let process = process_of(transition_of(&run.machine, *entry));
         if !repeat(run, &[*entry])? {
             return Ok(());
         }
-        transitions.push(taken)?;
+        processes.push(process)?;
     }
     Ok(())
 }
@@ -226,7 +233,7 @@ fn trace(
 fn trace_on<P: Progress>(
     alloc: Global,
     run: &mut JournaledMachine<'_>,
-    transitions: &mut Vec<RunTransition>,
+    processes: &mut Vec<u32>,
     journal: &[Entry],
     most: u64,
     progress: &P,
@@ -234,8 +241,8 @@ fn trace_on<P: Progress>(
     requires { IsUnderWay run.old }
     ensures { HasFollowed run.old run.new result }
 {
-    trace(run, transitions, journal)?;
-    let mut track = Track::new(alloc, &[]);
+    trace(run, processes, journal)?;
+    let mut track = Track::new(alloc, RunTransitions::new(&[], &[]));
     follow_track(run, &mut track, most, progress)
 }
 
@@ -252,12 +259,12 @@ pub(crate) fn traced<P: Progress>(
         return Ok(None);
     }
     let mut run = setting.start()?;
-    let mut transitions = Vec::new(setting.search.alloc);
+    let mut processes = Vec::new(setting.search.alloc);
     let most = making.entries;
     let end = trace_on(
         setting.search.alloc,
         &mut run,
-        &mut transitions,
+        &mut processes,
         journal,
         most,
         making.progress,
@@ -268,7 +275,7 @@ pub(crate) fn traced<P: Progress>(
             if wants_memory(&run) {
                 return Err(AllocError);
             }
-            Ok(Some(TracedRun { run, transitions }))
+            Ok(Some(TracedRun { run, processes }))
         }
         Ok(None) => Ok(None),
         Err(error) => Err(error),

@@ -11,8 +11,7 @@ use crate::hybrid::{HybridSetting, Lead, Making, TracedRun, run_on, traced};
 use crate::parting_race::PartingRace;
 use accesses::{Pair, are_same};
 use conflicts::{
-    Conflict, Conflicts, RaceBounds, RunRecorder, RunTransition, has_both_orders, is_order,
-    record_two,
+    Conflict, Conflicts, RaceBounds, RunRecorder, has_both_orders, is_order, record_two,
 };
 use model::entry::Entry;
 use progress::Progress;
@@ -37,7 +36,7 @@ struct PartedRuns<'a> {
     setting: HybridSetting<'a>,
     first: &'a RunRecord,
     other: &'a [Entry],
-    along: &'a [RunTransition],
+    along: &'a TracedRun,
 }
 
 // A run that takes the entries of a journal before a place and some behind them: whether it shows the same as the first one up to the place
@@ -108,7 +107,7 @@ impl<'a> PartedRuns<'a> {
     ) -> Result<Option<RunRecord>, AllocError>
         ensures { IfOk result (λ made. IfSome made (IsRun self.entry.setting.search.design.now self.entry.setting.search.limits)) }
     {
-        let made = run_on(self.setting, lead, self.along, making)?;
+        let made = run_on(self.setting, lead, self.along.transitions(), making)?;
         if is_refused(&made) {
             return Err(AllocError);
         }
@@ -269,7 +268,7 @@ impl<'a> PartedRuns<'a> {
             setting: self.setting,
             first: self.first,
             other: self.other,
-            along: base.transitions.as_slice(),
+            along: &base,
         };
         let moved = Moved {
             journal: base.run.journal.as_slice(),
@@ -379,29 +378,43 @@ fn confirmed(
     }
 }
 
+// One round, along a run that shows the same, if there is one already, or else along the first one.
+fn round_along<P: Progress>(
+    begun: PartedRuns<'_>,
+    along: &Option<TracedRun>,
+    from: usize,
+    making: &mut Making<'_, P>,
+) -> Result<RoundEnd, AllocError>
+    ensures { IfOk result (λ end. IfSome end.cause (PartsRun begun.entry.setting.search.design.now begun.entry.setting.search.limits begun.entry.first.now)) }
+{
+    let Some(along) = along else {
+        return begun.round(from, making);
+    };
+    let parting = PartedRuns {
+        setting: begun.setting,
+        first: begun.first,
+        other: begun.other,
+        along,
+    };
+    parting.round(from, making)
+}
+
 // Goes on in rounds, from a run that shows the same as the first one and takes so many first entries of the other journal.
 fn in_rounds<P: Progress>(
     begun: PartedRuns<'_>,
-    transitions: Vec<RunTransition>,
     from: usize,
     making: &mut Making<'_, P>,
 ) -> Result<Option<PartingRace>, AllocError>
     ensures { IfOk result (λ cause. IfSome cause (PartsRun begun.entry.setting.search.design.now begun.entry.setting.search.limits begun.entry.first.now)) }
 {
-    let mut along = transitions;
+    let mut traced_run: Option<TracedRun> = None;
     let mut from = from;
     for _ in 0..MOST_ROUNDS {
-        let parting = PartedRuns {
-            setting: begun.setting,
-            first: begun.first,
-            other: begun.other,
-            along: along.as_slice(),
-        };
-        let RoundEnd { cause, further } = parting.round(from, making)?;
+        let RoundEnd { cause, further } = round_along(begun, &traced_run, from, making)?;
         match further {
-            Some(TracedRun { run, transitions }) => {
-                from = shared_length(run.journal.as_slice(), begun.other);
-                along = transitions;
+            Some(further) => {
+                from = shared_length(&further.run.journal, begun.other);
+                traced_run = Some(further);
             }
             None => return Ok(cause),
         }
@@ -426,18 +439,14 @@ pub(crate) fn find_cause<P: Progress>(
     let Some(begun) = traced(setting, one, making)? else {
         return Ok(None);
     };
-    let TracedRun {
-        run: first,
-        transitions,
-    } = begun;
-    if !are_same(first.journal.as_slice(), one) {
+    if !are_same(&begun.run.journal, one) {
         return Ok(None);
     }
     let parting = PartedRuns {
         setting,
-        first: &first,
+        first: &begun.run,
         other,
-        along: &[],
+        along: &begun,
     };
-    in_rounds(parting, transitions, shared_length(one, other), making)
+    in_rounds(parting, shared_length(one, other), making)
 }

@@ -3,7 +3,7 @@ ghost use Rattle.std.specs.Prelude.{◌≡◌, IfSome, None};
 ghost use Rattle.model.specs.Runs.{refusal};
 ghost use Rattle.regions.specs.Machine.{state_at};
 
-use conflicts::{RunTransition, entry_of, first_entry, is_change, place_behind};
+use conflicts::{RunTransition, RunTransitions, entry_of, first_entry, is_change, place_behind};
 use model::entry::Entry;
 use regions::Machine;
 use std::alloc::{AllocError, Global};
@@ -14,7 +14,7 @@ const LOOK_AHEAD: usize = 1_024;
 /// The transitions of a run, of which those before a place were taken by another one or passed, and some behind it too.
 #[derive(Drop)]
 pub(crate) struct Track<'m> {
-    transitions: &'m [RunTransition],
+    transitions: RunTransitions<'m>,
     at: usize,
     taken: Vec<usize>,
 }
@@ -30,7 +30,7 @@ fn is_same(one: RunTransition, other: RunTransition) -> bool {
 
 impl<'m> Track<'m> {
     /// None of the transitions was taken.
-    pub(crate) fn new(alloc: Global, transitions: &'m [RunTransition]) -> Track<'m> {
+    pub(crate) fn new(alloc: Global, transitions: RunTransitions<'m>) -> Track<'m> {
         Track {
             transitions,
             at: 0,
@@ -40,7 +40,7 @@ impl<'m> Track<'m> {
 
     // The transition at a place, if there is one that wasn't taken.
     fn left_at(&self, place: usize) -> Option<RunTransition> {
-        match self.transitions.get(place).copied() {
+        match self.transitions.get(place) {
             Some(left) if !self.taken.contains(&place) => Some(left),
             _ => None,
         }

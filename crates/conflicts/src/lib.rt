@@ -37,6 +37,6 @@ pub use journaled_machine::{JournaledMachine, repeat};
 pub use recorder::{RunRecorder, record_run, record_two};
 pub use step_set::StepSet;
 pub use transitions::{
-    RunTransition, entry_of, first_entry, is_change, next_change, place_behind, transition_of,
-    turn_from,
+    RunTransition, RunTransitions, entry_of, first_entry, is_change, next_change, place_behind,
+    process_of, transition_of, turn_from,
 };

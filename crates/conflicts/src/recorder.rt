@@ -8,7 +8,7 @@ use crate::bounds::{Bound, RaceBounds};
 use crate::conflicts::Conflicts;
 use crate::journaled_machine::JournaledMachine;
 use crate::segment::{Actor, Segment};
-use crate::transitions::{RunTransition, first_entry};
+use crate::transitions::{RunTransition, first_entry, process_of};
 use accesses::{Does, Role, Site};
 use design::Design;
 use model::end::{End, Why};
@@ -39,7 +39,8 @@ pub struct RunRecorder {
     first_made: u64,
     /// Who made it and those that follow it, in the order of their numbers.
     origins: Vec<EventOrigin>,
-    pub transitions: Vec<RunTransition>,
+    /// The process of each entry that is a turn, and 0 for others.
+    pub processes: Vec<u32>,
     pub conflicts: Conflicts,
 }
 
@@ -60,7 +61,7 @@ impl RunRecorder {
             segment: Segment::new(alloc),
             first_made: u64::from(design.processes()),
             origins: Vec::new(alloc),
-            transitions: Vec::new(alloc),
+            processes: Vec::new(alloc),
             conflicts: Conflicts::new(alloc, bounds),
         }
     }
@@ -234,8 +235,8 @@ impl RunRecorder {
             Some(noted) => noted,
             None => return false,
         };
-        let place = self.transitions.len();
-        let is_kept = self.transitions.push(noted.wanted).is_ok();
+        let place = self.processes.len();
+        let is_kept = self.processes.push(process_of(noted.wanted)).is_ok();
         match noted.process {
             Some(process) => {
                 let made = noted.own.saturating_add(machine.made().len() as u64);

@@ -15,6 +15,44 @@ pub enum RunTransition {
     Change(Entry),
 }
 
+/// The transitions of a run's entries: its journal, and the process of each entry that is a turn.
+#[derive(Clone, Copy)]
+pub struct RunTransitions<'a> {
+    journal: &'a [Entry],
+    processes: &'a [u32],
+}
+
+impl<'a> RunTransitions<'a> {
+    /// Those of a journal's entries, as far as there is a process for each, or another number where it is no turn.
+    pub fn new(journal: &'a [Entry], processes: &'a [u32]) -> RunTransitions<'a> {
+        RunTransitions { journal, processes }
+    }
+
+    /// How many there are.
+    pub fn len(&self) -> usize {
+        self.processes.len()
+    }
+
+    /// That of the entry at a place.
+    pub fn get(&self, place: usize) -> Option<RunTransition> {
+        let process = self.processes.get(place).copied()?;
+        let entry = self.journal.get(place).copied()?;
+        match entry {
+            Entry::Turn(_) => Some(RunTransition::Turn(process)),
+            Entry::Update(_) => Some(RunTransition::Update),
+            change => Some(RunTransition::Change(change)),
+        }
+    }
+}
+
+/// The number that a journal's transitions have for an entry: the process of its turn, and else 0.
+pub fn process_of(transition: RunTransition) -> u32 {
+    match transition {
+        RunTransition::Turn(process) => process,
+        RunTransition::Update | RunTransition::Change(_) => 0,
+    }
+}
+
 // Whether an entry is of this transition, where the machine stands.
 fn is_of(machine: &Machine<'_>, entry: Entry, wanted: RunTransition) -> bool {
     match (wanted, entry) {
@@ -112,9 +150,9 @@ fn is_earlier(entry: Entry, change: Entry) -> bool {
 }
 
 /// The place of the first change of the regions behind a place, or the end of the transitions.
-pub fn next_change(transitions: &[RunTransition], place: usize) -> usize {
+pub fn next_change(transitions: RunTransitions<'_>, place: usize) -> usize {
     for at in place..transitions.len() {
-        if let RunTransition::Change(_) = transitions[at] {
+        if let Some(RunTransition::Change(_)) = transitions.get(at) {
             return at;
         }
     }
@@ -122,8 +160,8 @@ pub fn next_change(transitions: &[RunTransition], place: usize) -> usize {
 }
 
 /// Whether the transition at a place is a change of the regions, or there is none.
-pub fn is_change(transitions: &[RunTransition], place: usize) -> bool {
-    match transitions.get(place).copied() {
+pub fn is_change(transitions: RunTransitions<'_>, place: usize) -> bool {
+    match transitions.get(place) {
         Some(RunTransition::Change(_)) => true,
         Some(_) => false,
         None => true,
@@ -131,9 +169,9 @@ pub fn is_change(transitions: &[RunTransition], place: usize) -> bool {
 }
 
 /// From a place on, the place behind a change of the regions, or that of the first one that is due later, or the end of the transitions.
-pub fn place_behind(transitions: &[RunTransition], from: usize, change: Entry) -> usize {
+pub fn place_behind(transitions: RunTransitions<'_>, from: usize, change: Entry) -> usize {
     for place in from..transitions.len() {
-        if let RunTransition::Change(other) = transitions[place] {
+        if let Some(RunTransition::Change(other)) = transitions.get(place) {
             if other == change {
                 return place.saturating_add(1);
             }

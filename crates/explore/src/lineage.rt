@@ -19,17 +19,13 @@ pub(crate) struct Lineage<M> {
 }
 
 /// Adds moves, the last of them first.
-fn push_back_to_front<M: Copy>(
-    alloc: Global,
-    back: &mut Vec<M>,
-    moves: &[M],
-) -> Result<(), AllocError>
+fn push_back_to_front<M: Copy>(back: &mut Vec<M>, moves: &[M]) -> Result<(), AllocError>
     ensures { OnOk result (back.new.items ≡ back.old.items ++ reverse moves.now) }
 {
-    let mut turned = Vec::new(alloc);
-    turned.extend_from_slice(moves)?;
-    turned.reverse();
-    back.extend_from_slice(&turned)?;
+    let from = back.len();
+    back.extend_from_slice(moves)?;
+    let (_, added) = back.split_at_mut(from);
+    added.reverse();
     Ok(())
 }
 
@@ -129,7 +125,7 @@ impl<M: Copy> Lineage<M> {
         let mut k = number;
         while k > from {
             let (before, moves) = self.last_step(k);
-            push_back_to_front(alloc, &mut back, moves)?;
+            push_back_to_front(&mut back, moves)?;
             k = before;
         }
         if k != from {
@@ -149,7 +145,7 @@ impl<M: Copy> Lineage<M> {
         let mut k = number;
         while k != 0 {
             let (from, moves) = self.last_step(k);
-            push_back_to_front(alloc, &mut back, moves)?;
+            push_back_to_front(&mut back, moves)?;
             k = from;
         }
         back.reverse();

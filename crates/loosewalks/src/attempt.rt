@@ -47,6 +47,7 @@ pub(crate) fn go_by<'d>(
     let all = take_way(scope, way, &members, room, machine)?;
     if is_kept(scope.rules.limits, machine, all) {
         walk.since.extend_from_slice(&room.way)?;
+        room.regain();
         walk.checkpoint = Some(checkpoint);
         return Ok(true);
     }

@@ -11,9 +11,6 @@ use noted::{NotedFault, take_noted};
 use regions::Machine;
 use std::alloc::AllocError;
 
-// The most events of one certified run that a walk takes.
-const MOST_EVENTS: u32 = 4_096;
-
 // Tells that an entry wasn't taken with a note. Fails where memory was refused.
 fn not_noted(fault: NotedFault) -> Result<bool, AllocError>
     ensures { IfOk result (λ taken. taken ≡ false) }
@@ -73,7 +70,8 @@ pub(crate) fn take_certified(
 {
     room.way.clear();
     room.certificate.clear();
-    for _ in 0..MOST_EVENTS {
+    let most = room.most_events();
+    for _ in 0..most {
         let named = match first_active(machine, classes) {
             Some(named) => named,
             None => return Ok(room.certificate.certifies()),
@@ -82,5 +80,6 @@ pub(crate) fn take_certified(
             return Ok(false);
         }
     }
+    room.spend(most);
     Ok(false)
 }

@@ -26,9 +26,6 @@ use settling::{
 };
 use std::alloc::{AllocError, Global};
 
-// The most events of others that a walk takes while processes are held.
-const MOST_EVENTS: u32 = 4_096;
-
 // Takes the event of an entry while processes are held, and adds its note to the certificate and its transition to the way. Answers
 // whether the notes certify.
 fn take_other(
@@ -68,7 +65,8 @@ fn take_others(
 {
     room.way.clear();
     room.certificate.clear();
-    for _ in 0..MOST_EVENTS {
+    let most = room.most_events();
+    for _ in 0..most {
         let named = match first_other(machine, classes, held) {
             Some(named) => named,
             None => return Ok(room.certificate.certifies()),
@@ -77,6 +75,7 @@ fn take_others(
             return Ok(false);
         }
     }
+    room.spend(most);
     Ok(false)
 }
 

@@ -7,7 +7,7 @@ use crate::follow::{follow_made, follow_on, follow_segment, lead_all};
 use crate::guide::Guide;
 use crate::race_search::RaceSearch;
 use accesses::{Pair, lead};
-use conflicts::{Conflict, JournaledMachine, Turning, next_change, repeat};
+use conflicts::{Conflict, JournaledMachine, RunTransitions, Turning, next_change, repeat};
 use model::end::End;
 use model::entry::Entry;
 use progress::Progress;
@@ -18,6 +18,10 @@ use std::alloc::{AllocError, Global};
 
 // The most entries that a second run takes before it is asked whether it comes to where the first one came.
 const MOST_STEPS: u32 = 4096;
+
+// The most entries of the first run that are taken to see whether a second run comes to where it came. A first run that goes on for longer
+// without a change of the regions may never come to one, and would be followed for each conflict.
+const MOST_REJOINED: usize = 8_192;
 
 // A copy of a machine, on the heap, so that it is dropped as a pointer.
 fn copy_of<'d>(alloc: Global, machine: &Machine<'d>) -> Result<Box<Machine<'d>>, AllocError> {
@@ -77,7 +81,7 @@ impl<'a> ExchangeLead<'a> {
     // The transitions of the first run behind the pair's earlier entry, but for those that were taken before.
     fn guide(self) -> Guide<'a> {
         Guide {
-            transitions: self.task.transitions,
+            transitions: self.task.transitions(),
             at: self.pair.earlier.saturating_add(1),
             taken: self.places,
             later: self.pair.later,
@@ -92,12 +96,12 @@ impl<'a> ExchangeLead<'a> {
         machine: &mut Machine<'_>,
     ) -> Result<bool, AllocError> {
         let task = self.task;
-        let place = next_change(task.transitions, self.pair.later);
+        let place = next_change(task.transitions(), self.pair.later);
         let entries = match task.original.journal.get(self.pair.earlier..place) {
             Some(entries) => entries,
             None => return Ok(false),
         };
-        if run.machine.state().is_active() {
+        if entries.len() > MOST_REJOINED || run.machine.state().is_active() {
             return Ok(false);
         }
         if !lead(machine, entries)? {
@@ -128,7 +132,7 @@ impl<'a> ExchangeLead<'a> {
         if !self.repeat_before(run)? {
             return Ok(false);
         }
-        lead_all(run, self.task.transitions, self.places)
+        lead_all(run, self.task.transitions(), self.places)
     }
 
     // Takes the entries of the first run before the pair, those in its place, and then the transitions of the first run as far as they
@@ -146,7 +150,7 @@ impl<'a> ExchangeLead<'a> {
             return Ok(None);
         }
         let mut machine = copy_of(self.task.alloc, &run.machine)?;
-        if !lead_all(run, self.task.transitions, self.places)? {
+        if !lead_all(run, self.task.transitions(), self.places)? {
             return Ok(None);
         }
         let mut guide = self.guide();
@@ -199,7 +203,7 @@ impl<'a> ExchangeLead<'a> {
             return Ok(None);
         }
         let mut guide = Guide {
-            transitions: &[],
+            transitions: RunTransitions::new(&[], &[]),
             at: 0,
             taken: &[],
             later: 0,

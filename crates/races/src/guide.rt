@@ -3,7 +3,7 @@ ghost use Rattle.std.specs.Prelude.{◌≡◌, IfSome, None};
 ghost use Rattle.model.specs.Runs.{refusal};
 ghost use Rattle.regions.specs.Machine.{state_at};
 
-use conflicts::{RunTransition, entry_of, first_entry, is_change, place_behind};
+use conflicts::{RunTransition, RunTransitions, entry_of, first_entry, is_change, place_behind};
 use model::entry::Entry;
 use regions::Machine;
 
@@ -14,7 +14,7 @@ const LOOK_AHEAD: usize = 64;
 /// taken before.
 #[derive(Clone, Copy)]
 pub(crate) struct Guide<'m> {
-    pub(crate) transitions: &'m [RunTransition],
+    pub(crate) transitions: RunTransitions<'m>,
     pub(crate) at: usize,
     pub(crate) taken: &'m [usize],
     pub(crate) later: usize,
@@ -28,7 +28,7 @@ impl<'m> Guide<'m> {
 
     // The process whose turn is the transition at a place, if it wasn't taken before.
     fn turn_at(&self, place: usize) -> Option<u32> {
-        match self.transitions.get(place).copied() {
+        match self.transitions.get(place) {
             Some(RunTransition::Turn(process)) if !self.is_taken(place) => Some(process),
             _ => None,
         }

@@ -85,7 +85,7 @@ pub fn find_races<P: Progress>(
         limits,
         bounds,
         original: &original,
-        transitions: &recorder.transitions,
+        processes: &recorder.processes,
     };
     let Trials {
         races,

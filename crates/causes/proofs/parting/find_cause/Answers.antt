@@ -7,4 +7,4 @@ use Rattle.causes.proofs.parting.find_cause.Goals as goal
 pub returns : goal.returns
 returns g c =
     let is_run : IsRun c.args.setting.search.design.now c.args.setting.search.limits c.in-Some.begun.run = rw c.in-Some.is at c.in_ok-begun.ensures in
-    behind_first c.args.setting.search.design.now c.args.setting.search.limits c.args.one.now c.in-Some.begun.run c.in_rounds.result is_run (sym c.as_slice.ensures.value ∙ c.are_same.ensures.0 c.if-not-are_same.false) c.in_rounds.ensures
+    behind_first c.args.setting.search.design.now c.args.setting.search.limits c.args.one.now c.in-Some.begun.run c.in_rounds.result is_run (sym c.deref.ensures.value ∙ c.are_same.ensures.0 c.if-not-are_same.false) c.in_rounds.ensures
