@@ -4,3 +4,4 @@ pub mod WordLemmas
 pub mod ObservedWords
 pub mod SecondWord
 pub mod TaskLemmas
+pub mod FormedLemmas

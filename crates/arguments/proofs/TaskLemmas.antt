@@ -1,8 +1,13 @@
 -- The commands of the tasks, one for all: how they are built, what is found in their words, and what that says of the words.
 use Rattle.std.proofs.Common.{◌≡◌, ◌∙◌, ◌+◌, ◌++◌, ap, ap₂, refl, sym, subst, ℕ, List, [], ◌∷◌, map, drop, take, true, false, codes, Some, None, inl, inr}
+use Rattle.std.specs.List.{All}
+use Rattle.std.specs.Prelude.{IfOk, Result, Ok, Err, Option, String}
+use Rattle.std.specs.declared.alloc.Global.{Global}
 use Rattle.std.proofs.lemmas.List.{map-append}
-use Rattle.clap.specs.Built.{IsParsedFrom, AddsArg, AddsSubcommand}
-use Rattle.clap.specs.Words.{App, HasKind, Row, Text, app_of, found_of, is_simple, is_simple_and_free, kind_of, new_app, rule_of, with_rule, with_subcommand}
+use Rattle.clap.specs.Simple.{app_of_fields}
+use Rattle.clap.specs.declared.builder.command.Command.TheViews.{out-Command}
+use Rattle.clap.specs.Built.{IsParsedFrom, IsPlainArg, AddsArg, AddsSubcommand}
+use Rattle.clap.specs.Words.{App, HasKind, Row, Text, app_of, args_of, found_of, is_simple, is_simple_and_free, kind_of, new_app, rule_of, with_rule, with_subcommand}
 use Rattle.clap.specs.declared.builder.arg.Arg.{Arg}
 use Rattle.clap.specs.declared.builder.command.Command.{Command}
 use Rattle.clap.specs.declared.error.Error.{Error}
@@ -12,7 +17,7 @@ use Rattle.arguments.specs.declared.request.Request.{Request}
 use Rattle.arguments.specs.declared.request.Request.TheVariants as request
 use Rattle.arguments.specs.declared.command_task.CommandTask.{CommandTask}
 use Rattle.arguments.specs.declared.command_task.CommandTask.TheVariants as task
-use Rattle.arguments.specs.Arguments.{FollowsRule, Gives, HasRules, flag_parser, flag_rule, parameters_of, rule, rule_for, rules_of, workers_parser, until_parser, entries_parser, seed_parser}
+use Rattle.arguments.specs.Arguments.{Follow, FollowsRule, Gives, HasRules, Rule, flag_parser, flag_rule, parameters_of, rule, rule_for, rules_of, workers_parser, until_parser, entries_parser, seed_parser}
 use Rattle.arguments.specs.CommandWords.{Asks, AsksInVain, Begins, FailsAs, IsAskedBy, IsRunOf, IsReplayOf, IsRacesOf, IsCheckOf, IsExplainOf, IsWavesOf, IsDiffOf, app_by, argument_of, bare_app, every_task, faults_by, rows_by, with_arguments, with_tasks, word_of_task, run_app, replay_app, races_app, check_app, explain_app, waves_app, diff_app, whole_app, run_rows, replay_rows, races_rows, check_rows, explain_rows, waves_rows, diff_rows, run_faults, replay_faults, races_faults, check_faults, explain_faults, waves_faults, diff_faults}
 use Rattle.arguments.proofs.GivenLemmas.{given, one_more, required_text}
 use Rattle.arguments.proofs.WordLemmas.{run_fails, replay_fails, races_fails, check_fails, explain_fails, waves_fails, diff_fails, no_telling_fails, nothing_observed_fails, samples_fail, two_orders_fail}
@@ -186,13 +191,39 @@ argument_more asked taken i p c d a more takes is added rules app =
           ∙ (sym (with_arguments_more (new_app (word_of_task asked)) (take i taken) p) ∙ ap (with_arguments (new_app (word_of_task asked))) (sym more))),
     )
 
+-- a command that is called otherwise in usage has the same words and options
+same_rules : (c d : Command) (called : Option (String Global)) (rs : List Rule) → out-Command d ≡ record (out-Command c) { bin_name = called } → HasRules c rs → HasRules d rs
+same_rules c d called rs e h =
+    let args : args_of d ≡ args_of c = ap (λ f. f.args.items) e in
+    record {
+      args = subst (λ (xs : List Arg). Follow xs rs) (sym args) h.args;
+      plain = (subst (λ (xs : List Arg). All IsPlainArg xs) (sym args) h.plain.0, ap (λ f. f.groups.items) e ∙ h.plain.1);
+      local = ap (λ f. f.has_globals) e ∙ h.local;
+      negates = ap (λ f. f.subcommand_negates_reqs) e ∙ h.negates;
+    }
+
+pub called_rules : {E : Type 0} (r : Result Command E) (c : Command) (rs : List Rule) (P : Command → Type 0)
+    → IfOk r (λ d. (out-Command d ≡ record (out-Command c) { bin_name = (out-Command d).bin_name }) × P d) → HasRules c rs → IfOk r (λ d. HasRules d rs)
+called_rules (Ok d) c rs P h rules = same_rules c d (out-Command d).bin_name rs h.0 rules
+called_rules (Err e) c rs P h rules = tt
+
+pub called_app : {E : Type 0} (r : Result Command E) (c : Command) (app : App) (P : Command → Type 0)
+    → IfOk r (λ d. (out-Command d ≡ record (out-Command c) { bin_name = (out-Command d).bin_name }) × P d) → app_of c ≡ app → IfOk r (λ d. app_of d ≡ app)
+called_app (Ok d) c app P h is = ap app_of_fields h.0 ∙ is
+called_app (Err e) c app P h is = tt
+
 -- one command more
-pub task_more : (tasks : List CommandTask) (i : ℕ) (t : CommandTask) (c d next : Command) → take (i + 1) tasks ≡ take i tasks ++ t ∷ []
-    → HasRules next (rules_of t) → app_of next ≡ app_by t → AddsSubcommand c next d
+pub next_task : (t : CommandTask) (c d next : Command) → HasRules next (rules_of t) → app_of next ≡ app_by t → AddsSubcommand c next d
+    → app_of d ≡ with_subcommand (app_of c) (app_by t).top
+next_task t c d next rules is added = added.shape rules.local ∙ ap (λ (a : App). with_subcommand (app_of c) a.top) is
+
+-- and the tasks up to it
+pub task_more : (tasks : List CommandTask) (i : ℕ) (t : CommandTask) (c d : Command) → take (i + 1) tasks ≡ take i tasks ++ t ∷ []
+    → app_of d ≡ with_subcommand (app_of c) (app_by t).top
     → app_of c ≡ with_tasks bare_app (take i tasks) → app_of d ≡ with_tasks bare_app (take (i + 1) tasks)
-task_more tasks i t c d next more rules is added app =
-    added.shape rules.local
-    ∙ (ap₂ with_subcommand app (ap (λ (a : App). a.top) is) ∙ (sym (with_tasks_more bare_app (take i tasks) t) ∙ ap (with_tasks bare_app) (sym more)))
+task_more tasks i t c d more added app =
+    added
+    ∙ (ap (λ (a : App). with_subcommand a (app_by t).top) app ∙ (sym (with_tasks_more bare_app (take i tasks) t) ∙ ap (with_tasks bare_app) (sym more)))
 
 -- which task is asked for
 

@@ -13,6 +13,10 @@ use Rattle.clap.specs.declared.builder.value_parser.ValueParser.TheVariants as v
 use Rattle.clap.specs.declared.parser.matches.Found.{Found}
 use Rattle.arguments.specs.declared.parameters.Parameter.{Parameter}
 use Rattle.arguments.specs.declared.parameters.Parameter.TheVariants as parameter
+use Rattle.arguments.specs.declared.parameters.Form.{Form}
+use Rattle.arguments.specs.declared.parameters.Form.TheVariants as form
+use Rattle.arguments.specs.declared.parameters.NumberKind.{NumberKind}
+use Rattle.arguments.specs.declared.parameters.NumberKind.TheVariants as number
 use Rattle.arguments.specs.declared.command_task.CommandTask.{CommandTask}
 use Rattle.arguments.specs.declared.command_task.CommandTask.TheVariants as task
 
@@ -114,33 +118,80 @@ parameters_of task.Explain =
 parameters_of task.Waves = parameter.File ∷ parameter.Journal ∷ parameter.Out ∷ []
 parameters_of task.Diff = parameter.File ∷ parameter.FirstJournal ∷ parameter.SecondJournal ∷ parameter.AllTimes ∷ []
 
+-- what a number has to be
+abbrev pub number_parser : NumberKind → ValueParser
+number_parser number.Workers = workers_parser
+number_parser number.Count = entries_parser
+number_parser number.Time = until_parser
+number_parser number.Seed = seed_parser
+
+-- what a word or an option takes
+abbrev pub form_of : Parameter → Form
+form_of parameter.File = form.Place
+form_of parameter.Journal = form.Place
+form_of parameter.FirstJournal = form.Place
+form_of parameter.SecondJournal = form.Place
+form_of parameter.Workers = form.Number number.Workers
+form_of parameter.Until = form.Number number.Time
+form_of parameter.MaxEntries = form.Number number.Count
+form_of parameter.MaxStates = form.Number number.Count
+form_of parameter.MaxTexts = form.Number number.Count
+form_of parameter.MaxMemory = form.Number number.Count
+form_of parameter.Samples = form.Number number.Count
+form_of parameter.Seed = form.Number number.Seed
+form_of parameter.Observe = form.Text
+form_of parameter.From = form.Number number.Count
+form_of parameter.To = form.Number number.Count
+form_of parameter.FromTime = form.Number number.Time
+form_of parameter.ToTime = form.Number number.Time
+form_of parameter.Radix = form.Text
+form_of parameter.Versions = form.Flag
+form_of parameter.Registers = form.Text
+form_of parameter.JournalTo = form.Text
+form_of parameter.JournalsTo = form.Text
+form_of parameter.Out = form.Needed
+form_of parameter.All = form.Flag
+form_of parameter.AllTimes = form.Flag
+
+-- the name of a word or an option
+abbrev pub name_of : Parameter → List ℕ
+name_of parameter.File = codes "FILE"
+name_of parameter.Journal = codes "JOURNAL"
+name_of parameter.FirstJournal = codes "J1"
+name_of parameter.SecondJournal = codes "J2"
+name_of parameter.Workers = codes "workers"
+name_of parameter.Until = codes "until"
+name_of parameter.MaxEntries = codes "max-entries"
+name_of parameter.MaxStates = codes "max-states"
+name_of parameter.MaxTexts = codes "max-texts"
+name_of parameter.MaxMemory = codes "max-memory"
+name_of parameter.Samples = codes "samples"
+name_of parameter.Seed = codes "seed"
+name_of parameter.Observe = codes "observe"
+name_of parameter.From = codes "from"
+name_of parameter.To = codes "to"
+name_of parameter.FromTime = codes "from-time"
+name_of parameter.ToTime = codes "to-time"
+name_of parameter.Radix = codes "radix"
+name_of parameter.Versions = codes "versions"
+name_of parameter.Registers = codes "registers"
+name_of parameter.JournalTo = codes "journal"
+name_of parameter.JournalsTo = codes "journals"
+name_of parameter.Out = codes "out"
+name_of parameter.All = codes "all"
+name_of parameter.AllTimes = codes "all"
+
+-- the rule of a word or an option that takes this, under this name
+abbrev pub rule_by : Form → List ℕ → Rule
+rule_by form.Place name = rule name true None
+rule_by form.Flag name = flag_rule name
+rule_by form.Text name = rule name false None
+rule_by form.Needed name = rule name true None
+rule_by (form.Number kind) name = rule name false (Some (number_parser kind))
+
 -- the rule of a word or an option
 abbrev pub rule_for : Parameter → Rule
-rule_for parameter.File = rule (codes "FILE") true None
-rule_for parameter.Journal = rule (codes "JOURNAL") true None
-rule_for parameter.FirstJournal = rule (codes "J1") true None
-rule_for parameter.SecondJournal = rule (codes "J2") true None
-rule_for parameter.Workers = rule (codes "workers") false (Some workers_parser)
-rule_for parameter.Until = rule (codes "until") false (Some until_parser)
-rule_for parameter.MaxEntries = rule (codes "max-entries") false (Some entries_parser)
-rule_for parameter.MaxStates = rule (codes "max-states") false (Some entries_parser)
-rule_for parameter.MaxTexts = rule (codes "max-texts") false (Some entries_parser)
-rule_for parameter.MaxMemory = rule (codes "max-memory") false (Some entries_parser)
-rule_for parameter.Samples = rule (codes "samples") false (Some entries_parser)
-rule_for parameter.Seed = rule (codes "seed") false (Some seed_parser)
-rule_for parameter.Observe = rule (codes "observe") false None
-rule_for parameter.From = rule (codes "from") false (Some entries_parser)
-rule_for parameter.To = rule (codes "to") false (Some entries_parser)
-rule_for parameter.FromTime = rule (codes "from-time") false (Some until_parser)
-rule_for parameter.ToTime = rule (codes "to-time") false (Some until_parser)
-rule_for parameter.Radix = rule (codes "radix") false None
-rule_for parameter.Versions = flag_rule (codes "versions")
-rule_for parameter.Registers = rule (codes "registers") false None
-rule_for parameter.JournalTo = rule (codes "journal") false None
-rule_for parameter.JournalsTo = rule (codes "journals") false None
-rule_for parameter.Out = rule (codes "out") true None
-rule_for parameter.All = flag_rule (codes "all")
-rule_for parameter.AllTimes = flag_rule (codes "all")
+rule_for p = rule_by (form_of p) (name_of p)
 
 -- the rules of the command of a task
 abbrev pub rules_of : CommandTask → List Rule

@@ -21,7 +21,8 @@ use Rattle.arguments.specs.declared.request.ExplainRequest.{ExplainRequest}
 use Rattle.arguments.specs.declared.request.WavesRequest.{WavesRequest}
 use Rattle.arguments.specs.declared.request.DiffRequest.{DiffRequest}
 use Rattle.arguments.specs.declared.parameters.Parameter.{Parameter}
-use Rattle.arguments.specs.declared.parameters.Parameter.TheVariants as parameter
+use Rattle.arguments.specs.declared.parameters.Form.{Form}
+use Rattle.arguments.specs.declared.parameters.Form.TheVariants as form
 use Rattle.arguments.specs.declared.command_task.CommandTask.{CommandTask}
 use Rattle.arguments.specs.declared.command_task.CommandTask.TheVariants as task
 use Rattle.arguments.specs.declared.search_options.SearchOptions.{SearchOptions}
@@ -33,7 +34,7 @@ use Rattle.std.specs.Str.{bytes_eq}
 use Rattle.std.specs.Option.{option_map_or}
 use Rattle.literals.specs.declared.literal.Radix.{Radix}
 use Rattle.literals.specs.declared.literal.Radix.TheVariants.{Binary, Decimal, Hex}
-use Rattle.arguments.specs.Arguments.{flag_parser, workers_parser, until_parser, entries_parser, seed_parser}
+use Rattle.arguments.specs.Arguments.{flag_parser, form_of, name_of, number_parser, workers_parser, until_parser, entries_parser, seed_parser}
 
 -- the bytes of each word
 abbrev pub texts_of : {Z : Type 0} → List (String Z) → List Text
@@ -60,33 +61,17 @@ need name = record (choice name None) { required = true }
 abbrev pub flag : Text → Rule
 flag name = record (new_rule name) { long = Some name; action = Some SetTrue; parser = Some flag_parser }
 
+-- a word or an option that takes this, as clap has it under this name
+abbrev pub argument_by : Form → Text → Rule
+argument_by form.Place name = place name
+argument_by form.Flag name = flag name
+argument_by form.Text name = choice name None
+argument_by form.Needed name = need name
+argument_by (form.Number kind) name = choice name (Some (number_parser kind))
+
 -- a word or an option as clap has it
 abbrev pub argument_of : Parameter → Rule
-argument_of parameter.File = place (codes "FILE")
-argument_of parameter.Journal = place (codes "JOURNAL")
-argument_of parameter.FirstJournal = place (codes "J1")
-argument_of parameter.SecondJournal = place (codes "J2")
-argument_of parameter.Workers = choice (codes "workers") (Some workers_parser)
-argument_of parameter.Until = choice (codes "until") (Some until_parser)
-argument_of parameter.MaxEntries = choice (codes "max-entries") (Some entries_parser)
-argument_of parameter.MaxStates = choice (codes "max-states") (Some entries_parser)
-argument_of parameter.MaxTexts = choice (codes "max-texts") (Some entries_parser)
-argument_of parameter.MaxMemory = choice (codes "max-memory") (Some entries_parser)
-argument_of parameter.Samples = choice (codes "samples") (Some entries_parser)
-argument_of parameter.Seed = choice (codes "seed") (Some seed_parser)
-argument_of parameter.Observe = choice (codes "observe") None
-argument_of parameter.From = choice (codes "from") (Some entries_parser)
-argument_of parameter.To = choice (codes "to") (Some entries_parser)
-argument_of parameter.FromTime = choice (codes "from-time") (Some until_parser)
-argument_of parameter.ToTime = choice (codes "to-time") (Some until_parser)
-argument_of parameter.Radix = choice (codes "radix") None
-argument_of parameter.Versions = flag (codes "versions")
-argument_of parameter.Registers = choice (codes "registers") None
-argument_of parameter.JournalTo = choice (codes "journal") None
-argument_of parameter.JournalsTo = choice (codes "journals") None
-argument_of parameter.Out = need (codes "out")
-argument_of parameter.All = flag (codes "all")
-argument_of parameter.AllTimes = flag (codes "all")
+argument_of p = argument_by (form_of p) (name_of p)
 
 -- a command with these words and options more
 abbrev pub with_arguments : App → List Parameter → App

@@ -1,10 +1,10 @@
 //! The commands, as `clap` knows them, and what it finds in the words of each.
 
-ghost use Rattle.std.specs.Prelude.{◌≡◌, [], IfErr, IfOk};
-ghost use Rattle.clap.specs.Words.{HasKind, IsAmong, app_of, found_of, kind_of, new_app, rows_of};
+ghost use Rattle.std.specs.Prelude.{◌≡◌, IfErr, IfOk};
+ghost use Rattle.clap.specs.Words.{HasKind, IsAmong, app_of, found_of, kind_of, rows_of, with_subcommand};
 ghost use Rattle.clap.specs.declared.error.kind.ErrorKind.TheVariants.{MissingSubcommand};
 ghost use Rattle.arguments.specs.Arguments.{Gives, HasRules, rules_of};
-ghost use Rattle.arguments.specs.CommandWords.{app_by, bare_app, faults_by, kind_in_vain, other_faults, rows_by, texts_of, whole_app, word_of_task};
+ghost use Rattle.arguments.specs.CommandWords.{app_by, bare_app, faults_by, kind_in_vain, other_faults, rows_by, texts_of, whole_app};
 
 use crate::command_task::CommandTask;
 use crate::parameters::argument;
@@ -40,14 +40,25 @@ pub fn whole_matches<'a>(alloc: Global, words: &'a [String]) -> Result<ArgMatche
 pub fn said_in_vain(alloc: Global, vain: VainWords) -> Result<Error, AllocError>
     ensures { IfOk result (λ e. kind_of e ≡ kind_in_vain vain) }
 {
-    command(alloc, vain.task())?.error(vain.kind(), vain.text())
+    said(command(alloc, vain.task())?, vain.kind(), vain.text())
 }
 
 /// The error by which words are answered that ask for no task.
 pub fn missing(alloc: Global) -> Result<Error, AllocError>
     ensures { IfOk result (λ e. kind_of e ≡ MissingSubcommand) }
 {
-    program(alloc)?.error(ErrorKind::MissingSubcommand, "a subcommand is required")
+    said(
+        program(alloc)?,
+        ErrorKind::MissingSubcommand,
+        "a subcommand is required",
+    )
+}
+
+/// The error of this kind, with this text, as a command tells it.
+fn said(mut command: Command<'_>, kind: ErrorKind, text: &str) -> Result<Error, AllocError>
+    ensures { IfOk result (λ e. kind_of e ≡ kind) }
+{
+    command.error(kind, text)
 }
 
 /// The program as a whole, for its help and for words that ask for no task.
@@ -57,10 +68,21 @@ fn program<'a>(alloc: Global) -> Result<Command<'a>, AllocError>
     let tasks = CommandTask::every();
     let mut whole = bare_program(alloc);
     for task in tasks {
-        let next = command(alloc, *task)?;
-        whole = whole.subcommand(next)?;
+        whole = with_task(alloc, whole, *task)?;
     }
     Ok(whole)
+}
+
+/// A program with the command of a task more.
+fn with_task<'a>(
+    alloc: Global,
+    whole: Command<'a>,
+    task: CommandTask,
+) -> Result<Command<'a>, AllocError>
+    ensures { IfOk result (λ c. app_of c ≡ with_subcommand (app_of whole.entry) (app_by task).top) }
+{
+    let next = command(alloc, task)?;
+    whole.subcommand(next)
 }
 
 /// The program, with none of its commands yet.
@@ -80,19 +102,9 @@ fn command<'a>(alloc: Global, task: CommandTask) -> Result<Command<'a>, AllocErr
     ensures app { IfOk result (λ c. app_of c ≡ app_by task) }
 {
     let taken = parameters(task);
-    let mut command = bare_command(alloc, task)?;
+    let mut command = Command::new(alloc, task.word()).about(task.about());
     for parameter in taken {
         command = command.arg(argument(alloc, *parameter))?;
     }
-    Ok(command)
-}
-
-/// The command of a task, with no words and options yet.
-fn bare_command<'a>(alloc: Global, task: CommandTask) -> Result<Command<'a>, AllocError>
-    ensures rules { IfOk result (λ c. HasRules c []) }
-    ensures app { IfOk result (λ c. app_of c ≡ new_app (word_of_task task)) }
-{
-    Command::new(alloc, task.word())
-        .about(task.about())
-        .bin_name(task.title())
+    command.bin_name(task.title())
 }

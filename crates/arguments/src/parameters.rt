@@ -1,11 +1,12 @@
 //! The words and options of the commands, as `clap` knows them.
 
-ghost use Rattle.std.specs.Prelude.{◌≡◌, None, Some, true, false, codes};
+ghost use Rattle.std.specs.Prelude.{◌≡◌, None, Some, true, false};
 ghost use Rattle.clap.specs.Words.{rule_of};
-ghost use Rattle.arguments.specs.Arguments.{FollowsRule, rule, flag_rule, rule_for, workers_parser, until_parser, entries_parser, seed_parser};
-ghost use Rattle.arguments.specs.CommandWords.{argument_of, choice, flag, place};
+ghost use Rattle.arguments.specs.Arguments.{FollowsRule, rule, flag_rule, form_of, name_of, number_parser, rule_by, rule_for};
+ghost use Rattle.arguments.specs.CommandWords.{argument_by, argument_of, choice, flag, place};
 
-use clap::{Arg, ArgAction, value_parser};
+use clap::builder::ValueParser;
+use clap::{Arg, ArgAction};
 use std::alloc::Global;
 
 const MAX_ENTRIES: &str = "Most entries of a journal, 1 to 4294967295 [default: 1000000]";
@@ -77,37 +78,195 @@ const ALL: &str = "Shows each note at each of its places";
 
 const ALL_TIMES: &str = "Shows each register that differs at each time, and not at its first alone";
 
+const FILE: &str = "Verilog source";
+
+const JOURNAL: &str = "Journal of a run";
+
+const SECOND_JOURNAL: &str = "Journal of another run";
+
+const WORKERS: &str = "Worker threads, 1 to 16 [default: 2]";
+
+const UNTIL: &str = "Last time that the run may reach, 0 to 281474976710656 [default: no limit]";
+
+const SEED: &str = "Takes random choices from S, 0 to 18446744073709551615, on one thread";
+
+/// What a word or an option takes.
+#[derive(Clone, Copy)]
+enum Form {
+    /// It is a word that has to be given.
+    Place,
+    /// It is an option with no value.
+    Flag,
+    /// It is an option for any text.
+    Text,
+    /// It is an option for any text, and has to be given.
+    Needed,
+    /// It is an option for such a number.
+    Number(NumberKind),
+}
+
+/// What an option is a number of.
+#[derive(Clone, Copy)]
+enum NumberKind {
+    /// Workers, of which there are 1 to 16.
+    Workers,
+    /// Things of which there is one at least.
+    Count,
+    /// A time.
+    Time,
+    /// A seed.
+    Seed,
+}
+
+impl NumberKind {
+    /// What such a number has to be.
+    fn parser<'a>(self) -> ValueParser<'a>
+        ensures { result ≡ number_parser self }
+    {
+        match self {
+            NumberKind::Workers => ValueParser::signed(1, 16),
+            NumberKind::Count => ValueParser::signed(1, 4294967295),
+            NumberKind::Time => ValueParser::unsigned(0, 281474976710656),
+            NumberKind::Seed => ValueParser::unsigned(0, u64::MAX),
+        }
+    }
+}
+
+impl Parameter {
+    /// What it takes.
+    fn form(self) -> Form
+        ensures { result ≡ form_of self }
+    {
+        match self {
+            Parameter::File
+            | Parameter::Journal
+            | Parameter::FirstJournal
+            | Parameter::SecondJournal => Form::Place,
+            Parameter::Versions | Parameter::All | Parameter::AllTimes => Form::Flag,
+            Parameter::Observe
+            | Parameter::Radix
+            | Parameter::Registers
+            | Parameter::JournalTo
+            | Parameter::JournalsTo => Form::Text,
+            Parameter::Out => Form::Needed,
+            Parameter::Workers => Form::Number(NumberKind::Workers),
+            Parameter::MaxEntries
+            | Parameter::MaxStates
+            | Parameter::MaxTexts
+            | Parameter::MaxMemory
+            | Parameter::Samples
+            | Parameter::From
+            | Parameter::To => Form::Number(NumberKind::Count),
+            Parameter::Until | Parameter::FromTime | Parameter::ToTime => Form::Number(
+                NumberKind::Time,
+            ),
+            Parameter::Seed => Form::Number(NumberKind::Seed),
+        }
+    }
+
+    /// Its name.
+    fn name<'a>(self) -> &'a str
+        ensures { result.now ≡ name_of self }
+    {
+        match self {
+            Parameter::File => "FILE",
+            Parameter::Journal => "JOURNAL",
+            Parameter::FirstJournal => "J1",
+            Parameter::SecondJournal => "J2",
+            Parameter::Workers => "workers",
+            Parameter::Until => "until",
+            Parameter::MaxEntries => "max-entries",
+            Parameter::MaxStates => "max-states",
+            Parameter::MaxTexts => "max-texts",
+            Parameter::MaxMemory => "max-memory",
+            Parameter::Samples => "samples",
+            Parameter::Seed => "seed",
+            Parameter::Observe => "observe",
+            Parameter::From => "from",
+            Parameter::To => "to",
+            Parameter::FromTime => "from-time",
+            Parameter::ToTime => "to-time",
+            Parameter::Radix => "radix",
+            Parameter::Versions => "versions",
+            Parameter::Registers => "registers",
+            Parameter::JournalTo => "journal",
+            Parameter::JournalsTo => "journals",
+            Parameter::Out => "out",
+            Parameter::All | Parameter::AllTimes => "all",
+        }
+    }
+
+    /// What help calls its value, if it is an option with one.
+    fn value<'a>(self) -> &'a str {
+        match self {
+            Parameter::MaxMemory => "MB",
+            Parameter::Seed => "S",
+            Parameter::Observe => "WHAT",
+            Parameter::Until | Parameter::FromTime | Parameter::ToTime => "T",
+            Parameter::Radix => "R",
+            Parameter::Registers => "NAMES",
+            Parameter::JournalTo | Parameter::Out => "OUT",
+            Parameter::JournalsTo => "PREFIX",
+            _ => "N",
+        }
+    }
+
+    /// What help says of it.
+    fn help<'a>(self) -> &'a str {
+        match self {
+            Parameter::File => FILE,
+            Parameter::Journal | Parameter::FirstJournal => JOURNAL,
+            Parameter::SecondJournal => SECOND_JOURNAL,
+            Parameter::Workers => WORKERS,
+            Parameter::Until => UNTIL,
+            Parameter::MaxEntries => MAX_ENTRIES,
+            Parameter::MaxStates => MAX_STATES,
+            Parameter::MaxTexts => MAX_TEXTS,
+            Parameter::MaxMemory => MAX_MEMORY,
+            Parameter::Samples => SAMPLES,
+            Parameter::Seed => SEED,
+            Parameter::Observe => OBSERVE,
+            Parameter::From => FROM,
+            Parameter::To => TO,
+            Parameter::FromTime => FROM_TIME,
+            Parameter::ToTime => TO_TIME,
+            Parameter::Radix => RADIX,
+            Parameter::Versions => VERSIONS,
+            Parameter::Registers => REGISTERS,
+            Parameter::JournalTo => JOURNAL_TO,
+            Parameter::JournalsTo => JOURNALS_TO,
+            Parameter::Out => OUT,
+            Parameter::All => ALL,
+            Parameter::AllTimes => ALL_TIMES,
+        }
+    }
+}
+
 /// The word or option as `clap` knows it.
 pub fn argument<'a>(alloc: Global, parameter: Parameter) -> Arg<'a>
     ensures takes { FollowsRule result (rule_for parameter) }
     ensures rule { rule_of result ≡ argument_of parameter }
 {
-    match parameter {
-        Parameter::File => positional(alloc, "FILE", "Verilog source"),
-        Parameter::Journal => positional(alloc, "JOURNAL", "Journal of a run"),
-        Parameter::FirstJournal => positional(alloc, "J1", "Journal of a run"),
-        Parameter::SecondJournal => positional(alloc, "J2", "Journal of another run"),
-        Parameter::Workers => workers(alloc),
-        Parameter::Until => until(alloc),
-        Parameter::MaxEntries => count(alloc, "max-entries", MAX_ENTRIES),
-        Parameter::MaxStates => count(alloc, "max-states", MAX_STATES),
-        Parameter::MaxTexts => count(alloc, "max-texts", MAX_TEXTS),
-        Parameter::MaxMemory => memory(alloc),
-        Parameter::Samples => count(alloc, "samples", SAMPLES),
-        Parameter::Seed => seed(alloc),
-        Parameter::Observe => option(alloc, "observe", "WHAT", OBSERVE),
-        Parameter::From => count(alloc, "from", FROM),
-        Parameter::To => count(alloc, "to", TO),
-        Parameter::FromTime => time(alloc, "from-time", FROM_TIME),
-        Parameter::ToTime => time(alloc, "to-time", TO_TIME),
-        Parameter::Radix => option(alloc, "radix", "R", RADIX),
-        Parameter::Versions => flag(alloc, "versions", VERSIONS),
-        Parameter::Registers => option(alloc, "registers", "NAMES", REGISTERS),
-        Parameter::JournalTo => option(alloc, "journal", "OUT", JOURNAL_TO),
-        Parameter::JournalsTo => option(alloc, "journals", "PREFIX", JOURNALS_TO),
-        Parameter::Out => option(alloc, "out", "OUT", OUT).required(true),
-        Parameter::All => flag(alloc, "all", ALL),
-        Parameter::AllTimes => flag(alloc, "all", ALL_TIMES),
+    formed(
+        alloc,
+        parameter.form(),
+        parameter.name(),
+        parameter.value(),
+        parameter.help(),
+    )
+}
+
+/// The word or option that takes this, by its name, what help calls its value, and what help says of it.
+fn formed<'a>(alloc: Global, form: Form, name: &'a str, value: &'a str, help: &'a str) -> Arg<'a>
+    ensures takes { FollowsRule result (rule_by form name.entry.now) }
+    ensures rule { rule_of result ≡ argument_by form name.entry.now }
+{
+    match form {
+        Form::Place => positional(alloc, name, help),
+        Form::Flag => flag(alloc, name, help),
+        Form::Text => option(alloc, name, value, help),
+        Form::Needed => option(alloc, name, value, help).required(true),
+        Form::Number(kind) => parsed(option(alloc, name, value, help), kind.parser()),
     }
 }
 
@@ -139,59 +298,16 @@ fn flag<'a>(alloc: Global, name: &'a str, help: &'a str) -> Arg<'a>
     ensures takes { FollowsRule result (flag_rule name.entry.now) }
     ensures rule { rule_of result ≡ flag name.entry.now }
 {
-    Arg::new(alloc, name)
+    let unparsed = Arg::new(alloc, name)
         .long(name)
         .action(ArgAction::SetTrue)
-        .value_parser(value_parser!(bool))
-        .help(help)
+        .help(help);
+    parsed(unparsed, ValueParser::bool())
 }
 
-/// An option for a number from 1 on.
-fn count<'a>(alloc: Global, name: &'a str, help: &'a str) -> Arg<'a>
-    ensures takes { FollowsRule result (rule name.entry.now false (Some entries_parser)) }
-    ensures rule { rule_of result ≡ choice name.entry.now (Some entries_parser) }
+/// The same argument, whose values have to pass this parser.
+fn parsed<'a>(unparsed: Arg<'a>, parser: ValueParser<'a>) -> Arg<'a>
+    ensures { result ≡ record unparsed.entry { value_parser = Some parser.entry } }
 {
-    option(alloc, name, "N", help).value_parser(value_parser!(u32).range(1..))
-}
-
-fn memory<'a>(alloc: Global) -> Arg<'a>
-    ensures takes { FollowsRule result (rule (codes "max-memory") false (Some entries_parser)) }
-    ensures rule { rule_of result ≡ choice (codes "max-memory") (Some entries_parser) }
-{
-    option(alloc, "max-memory", "MB", MAX_MEMORY).value_parser(value_parser!(u32).range(1..))
-}
-
-/// The option for how many workers take a run.
-fn workers<'a>(alloc: Global) -> Arg<'a>
-    ensures takes { FollowsRule result (rule (codes "workers") false (Some workers_parser)) }
-    ensures rule { rule_of result ≡ choice (codes "workers") (Some workers_parser) }
-{
-    let help = "Worker threads, 1 to 16 [default: 2]";
-    option(alloc, "workers", "N", help).value_parser(value_parser!(u32).range(1..=16))
-}
-
-/// The option for the limit of time.
-fn until<'a>(alloc: Global) -> Arg<'a>
-    ensures takes { FollowsRule result (rule (codes "until") false (Some until_parser)) }
-    ensures rule { rule_of result ≡ choice (codes "until") (Some until_parser) }
-{
-    let help = "Last time that the run may reach, 0 to 281474976710656 [default: no limit]";
-    time(alloc, "until", help)
-}
-
-/// An option for a time.
-fn time<'a>(alloc: Global, name: &'a str, help: &'a str) -> Arg<'a>
-    ensures takes { FollowsRule result (rule name.entry.now false (Some until_parser)) }
-    ensures rule { rule_of result ≡ choice name.entry.now (Some until_parser) }
-{
-    option(alloc, name, "T", help).value_parser(value_parser!(u64).range(0..=281474976710656))
-}
-
-/// The option for the seed of a run, or for the first one of random orders.
-fn seed<'a>(alloc: Global) -> Arg<'a>
-    ensures takes { FollowsRule result (rule (codes "seed") false (Some seed_parser)) }
-    ensures rule { rule_of result ≡ choice (codes "seed") (Some seed_parser) }
-{
-    let help = "Takes random choices from S, 0 to 18446744073709551615, on one thread";
-    option(alloc, "seed", "S", help).value_parser(value_parser!(u64))
+    unparsed.value_parser(parser)
 }

@@ -2,6 +2,8 @@
 ghost use Rattle.std.specs.Prelude.{◌≡◌, ◌≤◌, IfOk, IfSome};
 ghost use Rattle.std.specs.Option.{ForSome};
 ghost use Rattle.model.specs.Runs.{last_time};
+ghost use Rattle.model.specs.declared.end.Limits.{Limits};
+ghost use Rattle.design.specs.Compiled.{Compiled};
 ghost use Rattle.runs.specs.RunRecords.{IsRun};
 ghost use Rattle.conflicts.specs.RunEndings.{IsUnderWay, HasFollowed, HasGoneOn};
 
@@ -188,6 +190,23 @@ fn go<P: Progress>(
     follow_track(run, track, most, progress)
 }
 
+// Leads a run, and then along a track, takes it off those that may be made, and gives what is told of it, where it comes to an end.
+fn made_on<P: Progress>(
+    setting: HybridSetting<'_>,
+    run: &mut JournaledMachine<'_>,
+    track: &mut Track<'_>,
+    lead: Lead<'_>,
+    making: &mut Making<'_, P>,
+) -> Result<Option<RunRecord>, AllocError>
+    requires { IsUnderWay run.old }
+    ensures { IfOk result (λ made. IfSome made (IsRun run.old.machine.code run.old.limits)) }
+{
+    let most = making.entries.min(setting.most_entries);
+    let end = go(run, track, lead, most, making.progress);
+    making.take(run.journal.len());
+    run.told_if(setting.search.alloc, end)
+}
+
 /// A run that is led so, and then takes the transitions of a run, as far as they may be taken, if one may still be made. It is taken off
 /// those that may, and its entries too. None where one of the first entries may not be taken, none are left, or the run comes to no end
 /// within the most entries that one takes.
@@ -204,10 +223,7 @@ pub(crate) fn run_on<P: Progress>(
     }
     let mut run = setting.start()?;
     let mut track = Track::new(setting.search.alloc, along);
-    let most = making.entries.min(setting.most_entries);
-    let end = go(&mut run, &mut track, lead, most, making.progress);
-    making.take(run.journal.len());
-    run.told_if(setting.search.alloc, end)
+    made_on(setting, &mut run, &mut track, lead, making)
 }
 
 // Takes the entries of a journal, as far as they may be taken, and puts the processes of their turns behind others.
@@ -246,6 +262,41 @@ fn trace_on<P: Progress>(
     follow_track(run, &mut track, most, progress)
 }
 
+// Takes the entries of a journal, notes the processes of their turns, and goes on. Takes the run off those that may be made, and gives what is told
+// of it, where it comes to an end.
+fn traced_on<P: Progress>(
+    setting: HybridSetting<'_>,
+    run: &mut JournaledMachine<'_>,
+    processes: &mut Vec<u32>,
+    journal: &[Entry],
+    making: &mut Making<'_, P>,
+) -> Result<Option<RunRecord>, AllocError>
+    requires { IsUnderWay run.old }
+    ensures { IfOk result (λ made. IfSome made (IsRun run.old.machine.code run.old.limits)) }
+{
+    let alloc = setting.search.alloc;
+    let end = trace_on(
+        alloc,
+        run,
+        processes,
+        journal,
+        making.entries,
+        making.progress,
+    );
+    making.take(run.journal.len());
+    run.told_if(alloc, end)
+}
+
+// A run with the processes of its turns. Fails where it wants memory.
+fn with_processes(run: RunRecord, processes: Vec<u32>) -> Result<Option<TracedRun>, AllocError>
+    ensures { (code : Compiled) (limits : Limits) → IsRun code limits run → IfOk result (λ made. IfSome made (λ m. IsRun code limits m.run)) }
+{
+    if wants_memory(&run) {
+        return Err(AllocError);
+    }
+    Ok(Some(TracedRun { run, processes }))
+}
+
 /// A run that takes the entries of a journal, and its transitions up to there, if one may still be made. It is taken off those that may, and its
 /// entries too. None where none are left. Fails where memory is refused, also to the run.
 pub(crate) fn traced<P: Progress>(
@@ -260,23 +311,8 @@ pub(crate) fn traced<P: Progress>(
     }
     let mut run = setting.start()?;
     let mut processes = Vec::new(setting.search.alloc);
-    let most = making.entries;
-    let end = trace_on(
-        setting.search.alloc,
-        &mut run,
-        &mut processes,
-        journal,
-        most,
-        making.progress,
-    );
-    making.take(run.journal.len());
-    match run.told_if(setting.search.alloc, end) {
-        Ok(Some(run)) => {
-            if wants_memory(&run) {
-                return Err(AllocError);
-            }
-            Ok(Some(TracedRun { run, processes }))
-        }
+    match traced_on(setting, &mut run, &mut processes, journal, making) {
+        Ok(Some(run)) => with_processes(run, processes),
         Ok(None) => Ok(None),
         Err(error) => Err(error),
     }

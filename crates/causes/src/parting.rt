@@ -202,10 +202,39 @@ impl<'a> PartedRuns<'a> {
         }
     }
 
-    // Takes an entry at a place of a journal that shows the same as the first run, and goes along its transitions. Where that shows the
-    // same too, it is what the next round goes on with, and else, also where that comes to no end, the entry is moved from its place in the
-    // journal towards this one, until it makes the difference.
-    fn turned<P: Progress>(
+    // Such a run, if it can be made and shows the same as the first one.
+    fn same_run<P: Progress>(
+        self,
+        lead: Lead<'_>,
+        making: &mut Making<'_, P>,
+    ) -> Result<Option<RunRecord>, AllocError> {
+        match self.made(lead, making)? {
+            Some(run) => Ok(if is_same(self.first, &run) {
+                Some(run)
+            } else {
+                None
+            }),
+            None => Ok(None),
+        }
+    }
+
+    // The round ends with a run that shows the same.
+    fn further<P: Progress>(
+        self,
+        run: &RunRecord,
+        making: &mut Making<'_, P>,
+    ) -> Result<RoundEnd, AllocError>
+        ensures { IfOk result (λ end. IfSome end.cause (PartsRun self.entry.setting.search.design.now self.entry.setting.search.limits self.entry.first.now)) }
+    {
+        let further = traced(self.setting, run.journal.as_slice(), making)?;
+        Ok(RoundEnd {
+            cause: None,
+            further,
+        })
+    }
+
+    // Moves an entry from its place in a journal towards another one, until it makes the difference.
+    fn moved_back<P: Progress>(
         self,
         moved: Moved<'_>,
         making: &mut Making<'_, P>,
@@ -213,16 +242,6 @@ impl<'a> PartedRuns<'a> {
         ensures { IfOk result (λ end. IfSome end.cause (PartsRun self.entry.setting.search.design.now self.entry.setting.search.limits self.entry.first.now)) }
     {
         let entries = [moved.entry];
-        let lead = Lead::new(moved.journal, moved.place, &entries);
-        if let Some(run) = self.made(lead, making)? {
-            if is_same(self.first, &run) {
-                let further = traced(self.setting, run.journal.as_slice(), making)?;
-                return Ok(RoundEnd {
-                    cause: None,
-                    further,
-                });
-            }
-        }
         let sought = Sought {
             journal: moved.journal,
             behind: &entries,
@@ -237,6 +256,60 @@ impl<'a> PartedRuns<'a> {
             cause,
             further: None,
         })
+    }
+
+    // Takes an entry at a place of a journal that shows the same as the first run, and goes along its transitions. Where that shows the
+    // same too, it is what the next round goes on with, and else, also where that comes to no end, the entry is moved from its place in the
+    // journal towards this one, until it makes the difference.
+    fn turned<P: Progress>(
+        self,
+        moved: Moved<'_>,
+        making: &mut Making<'_, P>,
+    ) -> Result<RoundEnd, AllocError>
+        ensures { IfOk result (λ end. IfSome end.cause (PartsRun self.entry.setting.search.design.now self.entry.setting.search.limits self.entry.first.now)) }
+    {
+        let entries = [moved.entry];
+        let lead = Lead::new(moved.journal, moved.place, &entries);
+        match self.same_run(lead, making)? {
+            Some(run) => self.further(&run, making),
+            None => self.moved_back(moved, making),
+        }
+    }
+
+    // The run that takes the other one's entries before a place, and then goes along, with its transitions.
+    fn base<P: Progress>(
+        self,
+        place: usize,
+        making: &mut Making<'_, P>,
+    ) -> Result<Option<TracedRun>, AllocError> {
+        match self.made(Lead::new(self.other, place, &[]), making)? {
+            Some(led) => traced(self.setting, led.journal.as_slice(), making),
+            None => Ok(None),
+        }
+    }
+
+    // Finds the pair of entries of which this one, which the other run takes at a place, makes the difference in a run that shows the same.
+    fn turned_along<P: Progress>(
+        self,
+        base: &TracedRun,
+        entry: Entry,
+        place: usize,
+        making: &mut Making<'_, P>,
+    ) -> Result<RoundEnd, AllocError>
+        ensures { IfOk result (λ end. IfSome end.cause (PartsRun self.entry.setting.search.design.now self.entry.setting.search.limits self.entry.first.now)) }
+    {
+        let along = PartedRuns {
+            setting: self.setting,
+            first: self.first,
+            other: self.other,
+            along: base,
+        };
+        let moved = Moved {
+            journal: base.run.journal.as_slice(),
+            entry,
+            place,
+        };
+        along.turned(moved, making)
     }
 
     // Finds the choice of the other run that makes the difference, and then the pair of entries.
@@ -258,24 +331,10 @@ impl<'a> PartedRuns<'a> {
         let Some(entry) = self.other.get(place).copied() else {
             return Ok(nothing());
         };
-        let Some(led) = self.made(Lead::new(self.other, place, &[]), making)? else {
-            return Ok(nothing());
-        };
-        let Some(base) = traced(self.setting, led.journal.as_slice(), making)? else {
-            return Ok(nothing());
-        };
-        let along = PartedRuns {
-            setting: self.setting,
-            first: self.first,
-            other: self.other,
-            along: &base,
-        };
-        let moved = Moved {
-            journal: base.run.journal.as_slice(),
-            entry,
-            place,
-        };
-        along.turned(moved, making)
+        match self.base(place, making)? {
+            Some(base) => self.turned_along(&base, entry, place, making),
+            None => Ok(nothing()),
+        }
     }
 }
 
@@ -357,6 +416,24 @@ fn first_of(
     Ok(None)
 }
 
+// The pair of conflicts that were recorded, if they could be: for a register or the end of the run, if there is one, and else for an order of
+// lines or of updates.
+fn recorded_pair(
+    setting: HybridSetting<'_>,
+    recorded: Result<(), AllocError>,
+    conflicts: &Conflicts,
+    original: &RunRecord,
+    exchanged: &RunRecord,
+) -> Result<Option<Pair>, AllocError>
+    ensures { IfOk result (λ found. IfSome found (IsPairOf setting.entry.search.design.now original.now exchanged.now)) }
+{
+    recorded?;
+    match first_of(setting, conflicts, original, exchanged, false)? {
+        Some(pair) => Ok(Some(pair)),
+        None => first_of(setting, conflicts, original, exchanged, true),
+    }
+}
+
 // The pair of two neighbours of a first run, from a place on, that a second run has in the other order: for a register or the end of the
 // run where they conflict there, and else for an order of lines or of updates.
 fn confirmed(
@@ -371,11 +448,10 @@ fn confirmed(
     let mut run = setting.start()?;
     let mut recorder = RunRecorder::start(alloc, design, PAIR_BOUNDS);
     let journal = original.journal.as_slice();
-    record_two(alloc, &mut run, &mut recorder, PAIR_BOUNDS, journal, place)?;
-    match first_of(setting, &recorder.conflicts, original, exchanged, false)? {
-        Some(pair) => Ok(Some(pair)),
-        None => first_of(setting, &recorder.conflicts, original, exchanged, true),
-    }
+    let recorded = record_two(alloc, &mut run, &mut recorder, PAIR_BOUNDS, journal, place);
+    let pair = recorded_pair(setting, recorded, &recorder.conflicts, original, exchanged);
+    drop(recorder);
+    pair
 }
 
 // One round, along a run that shows the same, if there is one already, or else along the first one.

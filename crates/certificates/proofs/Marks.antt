@@ -1,7 +1,10 @@
 -- Marks, and sets of actors by their marks.
-use Rattle.std.proofs.Common.{◌≡◌, ◌≢◌, ℕ, zero, suc, ◌<◌, ◌≤◌, Bool, true, false, ◌||◌, ◌==◌, List, [], ◌∷◌, ◌++◌, length, get_or, take, refl, sym, ap, ◌∙◌, eqb-true, eq-eqb, get_or-set_same, get_or-set_other, take_all}
+use Rattle.std.proofs.Common.{◌≡◌, ◌≢◌, ℕ, zero, suc, ◌+◌, ◌<◌, ◌≤◌, Bool, true, false, ◌||◌, ◌==◌, List, [], ◌∷◌, ◌++◌, length, get_or, take, refl, sym, ap, ◌∙◌, eqb-true, eq-eqb, get_or-set_same, get_or-set_other, take_all}
 use Rattle.std.specs.Prelude.{slice_set}
+use Rattle.std.specs.List.{list_any}
+use Rattle.std.proofs.Math.Bool.{or_assoc}
 use Rattle.std.proofs.Math.ListN.{replicate}
+use Rattle.std.proofs.lemmas.List.Folds.{list_any_more}
 use Rattle.certificates.specs.Marks.{is_marked}
 use Rattle.certificates.proofs.Tests.{or_right, never_true}
 
@@ -32,3 +35,14 @@ set_if xs i n false is less =
 
 pub set_marked : (xs : List Bool) (i n : ℕ) → i < length xs → is_marked (slice_set xs i true) n ≡ (is_marked xs n || (i == n))
 set_marked xs i n less = set_if xs i n (i == n) refl less
+
+-- one number more is marked
+pub marked_more : {X : Type 0} (number : X → ℕ) (xs : List X) (i : ℕ) (d : X) (old mid new : List Bool) (added : ℕ) → i < length xs → added ≡ number (get_or xs i d)
+    → ((n : ℕ) → is_marked mid n ≡ (is_marked old n || list_any (λ x. number x == n) (take i xs))) → ((n : ℕ) → is_marked new n ≡ (is_marked mid n || added == n))
+    → (n : ℕ) → is_marked new n ≡ (is_marked old n || list_any (λ x. number x == n) (take (i + 1) xs))
+marked_more number xs i d old mid new added below is before one n =
+    one n
+    ∙ (ap (λ (b : Bool). b || added == n) (before n)
+    ∙ (ap (λ (k : ℕ). is_marked old n || list_any (λ x. number x == n) (take i xs) || k == n) is
+    ∙ (or_assoc (is_marked old n) (list_any (λ x. number x == n) (take i xs)) (number (get_or xs i d) == n)
+    ∙ ap (λ (b : Bool). is_marked old n || b) (sym (list_any_more (λ x. number x == n) xs i d below)))))

@@ -75,9 +75,9 @@ impl<'d> Gate<'d, Brand> {
         ensures workers { IfOk result (λ b. b.workers ≡ workers) }
         ensures limits { IfOk result (λ b. b.limits ≡ limits) }
     {
+        let committed = Vec::with_capacity(alloc, workers as usize)?;
         let (cells, holder, seats) = RegCells::new(rt, alloc, design, workers)?;
         let (mark, whole) = new_mark(alloc)?;
-        let committed = Vec::with_capacity(alloc, workers as usize)?;
         let run_state = RunState::new(alloc, design, limits, holder, whole)?;
         Ok(Blank {
             workers,
@@ -149,6 +149,10 @@ impl<'d> Blank<'d> {
         ensures seats { IfOk result (λ r. r.1.items ≡ map (new_seat K.named.code) (range_with_len 0 K.named.workers)) }
         ensures tickets { IfOk result (λ r. IsFirstTickets K.named.code r.2.items) }
     {
+        let Ok(tickets) = first_tickets::<K>(alloc, &self.run_state) else {
+            drop(self);
+            return Err(AllocError);
+        };
         let Blank {
             workers,
             cells,
@@ -157,8 +161,11 @@ impl<'d> Blank<'d> {
             committed,
             mut run_state,
         } = self;
-        let tickets = first_tickets::<K>(alloc, &run_state)?;
-        let seats = seat_all::<K>(alloc, workers, &mark, &mut run_state.whole, seats)?;
+        let Ok(seats) = seat_all::<K>(alloc, workers, &mark, &mut run_state.whole, seats) else {
+            drop(run_state);
+            drop(mark);
+            return Err(AllocError);
+        };
         let state = GateState::new(alloc, run_state);
         let gate = Gate::under_name(cells, mark, state, committed);
         Ok((gate, seats, tickets))

@@ -84,6 +84,12 @@ impl Conflicts {
         }
     }
 
+    /// Forgets the conflicts that were found. From here on as many are kept as race bounds say.
+    pub(crate) fn begin_anew(&mut self, bounds: RaceBounds) {
+        let alloc = self.alloc;
+        *self = Conflicts::new(alloc, bounds);
+    }
+
     /// Notes by what the list was cut, unless something cut it before.
     pub(crate) fn cut_by(&mut self, bound: Bound) {
         if self.cut.is_none() {

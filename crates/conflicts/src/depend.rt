@@ -12,12 +12,11 @@ struct StepMarks {
     assigned: bool,
 }
 
-/// How steps hang on an earlier one, and the later one behind them: which need it, themselves or by another one that does; and which depend
-/// on it, since they need it or conflict with it, themselves or by another one that does.
+/// How steps hang on an earlier one: which need it, themselves or by another one that does; and which depend on it, since they need it or
+/// conflict with it, themselves or by another one that does.
 #[derive(Drop)]
 struct Chain {
     earlier: usize,
-    later: SegmentStep,
     by_earlier: StepMarks,
     by_depending: StepMarks,
     needing: StepSet,
@@ -42,27 +41,27 @@ impl StepMarks {
         })
     }
 
-    // Marks what a step did.
-    fn add(&mut self, step: SegmentStep, accesses: &[Access]) {
+    // Marks what a step did: these accesses, and assignments if it made some.
+    fn add(&mut self, assigns: bool, accesses: &[Access]) {
         for access in accesses {
             self.accessed.insert(access.site_number());
             if access.changes {
                 self.changed.insert(access.site_number());
             }
         }
-        self.assigned = self.assigned | step.assigns;
+        self.assigned = self.assigned | assigns;
     }
 
     // Whether a step conflicts with one of these: one of the two changes what the other accesses, or both make nonblocking
     // assignments, whose order is that of their updates.
-    fn meets(&self, step: SegmentStep, accesses: &[Access]) -> bool {
+    fn meets(&self, assigns: bool, accesses: &[Access]) -> bool {
         for access in accesses {
             let site = access.site_number();
             if self.changed.contains(site) || (access.changes && self.accessed.contains(site)) {
                 return true;
             }
         }
-        self.assigned && step.assigns
+        self.assigned && assigns
     }
 }
 
@@ -80,7 +79,6 @@ impl Chain {
         let width = later.saturating_sub(earlier);
         let mut chain = Chain {
             earlier,
-            later: last,
             by_earlier: StepMarks::new(alloc, segment.sites())?,
             by_depending: StepMarks::new(alloc, segment.sites())?,
             needing: StepSet::new(alloc, width)?,
@@ -88,7 +86,9 @@ impl Chain {
         };
         chain.needing.insert(0);
         if let Some(step) = segment.step_at(earlier) {
-            chain.by_earlier.add(step, segment.accesses_of(earlier));
+            chain
+                .by_earlier
+                .add(step.assigns, segment.accesses_of(earlier));
         }
         for at in earlier.saturating_add(1)..later {
             if let Some(step) = segment.step_at(at) {
@@ -119,20 +119,47 @@ impl Chain {
     fn is_linked(&self, step: SegmentStep, accesses: &[Access]) -> bool {
         self.is_in(&self.depending, step.cause)
             || self.is_in(&self.depending, step.before)
-            || self.by_depending.meets(step, accesses)
+            || self.by_depending.meets(step.assigns, accesses)
+    }
+
+    // Whether a step that doesn't need the earlier one depends on it.
+    fn depends(&self, step: SegmentStep, accesses: &[Access]) -> bool {
+        self.is_linked(step, accesses) || self.by_earlier.meets(step.assigns, accesses)
+    }
+
+    // Notes a step that depends on the earlier one, with what it did.
+    fn add_depending(&mut self, behind: usize, assigns: bool, accesses: &[Access]) {
+        self.depending.insert(behind);
+        self.by_depending.add(assigns, accesses);
     }
 
     // Goes past a step.
     fn pass(&mut self, at: usize, step: SegmentStep, accesses: &[Access]) {
         let behind = at.saturating_sub(self.earlier);
-        let needs = self.needs(step);
-        if needs {
+        if self.needs(step) {
             self.needing.insert(behind);
+            self.add_depending(behind, step.assigns, accesses);
+        } else if self.depends(step, accesses) {
+            self.add_depending(behind, step.assigns, accesses);
         }
-        if needs || self.is_linked(step, accesses) || self.by_earlier.meets(step, accesses) {
-            self.depending.insert(behind);
-            self.by_depending.add(step, accesses);
-        }
+    }
+
+    // The steps between that a second run takes before the later one, which did these accesses: all that don't depend on the earlier one, where
+    // none of those that do ties the two together, and else all that don't need it. Fails where memory is refused.
+    fn prior_steps(
+        &self,
+        alloc: Global,
+        last: SegmentStep,
+        accesses: &[Access],
+        width: usize,
+    ) -> Result<PriorSteps, AllocError> {
+        let is_tied = self.is_linked(last, accesses);
+        let steps = if is_tied {
+            others(alloc, &self.needing, width)?
+        } else {
+            others(alloc, &self.depending, width)?
+        };
+        Ok(PriorSteps { steps, is_tied })
     }
 }
 
@@ -147,6 +174,19 @@ fn others(alloc: Global, set: &StepSet, width: usize) -> Result<StepSet, AllocEr
     Ok(others)
 }
 
+// Steps that nothing ties together.
+fn untied(steps: Result<StepSet, AllocError>) -> Result<PriorSteps, AllocError> {
+    Ok(PriorSteps {
+        steps: steps?,
+        is_tied: false,
+    })
+}
+
+// What was found.
+fn some_of(before: Result<PriorSteps, AllocError>) -> Result<Option<PriorSteps>, AllocError> {
+    Ok(Some(before?))
+}
+
 impl Segment {
     /// The steps between two that a second run takes before them. None where the later one needs the earlier one.
     pub(crate) fn swapped(
@@ -155,17 +195,16 @@ impl Segment {
         earlier: usize,
         later: usize,
     ) -> Result<Option<PriorSteps>, AllocError> {
-        let width = later.saturating_sub(earlier);
+        let Some(last) = self.step_at(later) else {
+            return Ok(None);
+        };
         let Some(chain) = Chain::between(alloc, self, earlier, later)? else {
             return Ok(None);
         };
-        let is_tied = chain.is_linked(chain.later, self.accesses_of(later));
-        let steps = if is_tied {
-            others(alloc, &chain.needing, width)?
-        } else {
-            others(alloc, &chain.depending, width)?
-        };
-        Ok(Some(PriorSteps { steps, is_tied }))
+        let width = later.saturating_sub(earlier);
+        let before = chain.prior_steps(alloc, last, self.accesses_of(later), width);
+        drop(chain);
+        some_of(before)
     }
 
     /// The steps between two that a second run takes before the later one, which finishes it: all that don't need the earlier one. None where
@@ -179,10 +218,8 @@ impl Segment {
         let Some(chain) = Chain::between(alloc, self, earlier, later)? else {
             return Ok(None);
         };
-        let steps = others(alloc, &chain.needing, later.saturating_sub(earlier))?;
-        Ok(Some(PriorSteps {
-            steps,
-            is_tied: false,
-        }))
+        let steps = others(alloc, &chain.needing, later.saturating_sub(earlier));
+        drop(chain);
+        some_of(untied(steps))
     }
 }

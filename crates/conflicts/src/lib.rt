@@ -4,7 +4,8 @@
 //!    their events are its transitions, by which another run can follow it (`transitions`).
 //! 2. `record_run` makes the first run, which takes the first entry that the rules permit at each choice (`recorder`). Beside the machine
 //!    it notes what each entry did: which registers its turn read, wrote, assigned or began to wait for, whether it printed or met a
-//!    `$strobe`, and which entry made its event. These notes are kept from one change of the regions to the next (`segment`).
+//!    `$strobe` (`turn_notes`), and which entry made its event (`origins`). These notes are kept from one change of the regions to the next
+//!    (`segment`).
 //! 3. Two entries of one segment conflict where the later one doesn't need the earlier one and one changes what the other reads, writes or
 //!    waits for, or both assign a register other values, or both print, or both meet a `$strobe`; and an entry that finishes the run
 //!    conflicts with those before it, and with the events that it leaves behind. What each entry needs is found once for all of a segment
@@ -24,10 +25,12 @@ mod counts;
 mod depend;
 mod journaled_machine;
 mod needed_steps;
+mod origins;
 mod recorder;
 mod segment;
 mod step_set;
 mod transitions;
+mod turn_notes;
 
 pub use both_orders::has_both_orders;
 pub use bounds::{Bound, RaceBounds};

@@ -31,9 +31,9 @@ impl NeededSteps {
         self.width = steps.len() / 64 + 1;
         self.words
             .resize(steps.len().saturating_mul(self.width), 0)?;
-        for (at, step) in steps.iter().enumerate() {
-            self.inherit(at, step.cause);
-            self.inherit(at, step.before);
+        for at in 0..steps.len() {
+            self.inherit(at, steps[at].cause);
+            self.inherit(at, steps[at].before);
         }
         Ok(())
     }
@@ -53,8 +53,8 @@ impl NeededSteps {
 
     // Sets bits of the word at a place.
     fn set(&mut self, place: usize, bits: u64) {
-        if let Some(word) = self.words.get_mut(place) {
-            *word = *word | bits;
+        if place < self.words.len() {
+            self.words[place] = self.words[place] | bits;
         }
     }
 

@@ -7,8 +7,9 @@ ghost use Rattle.conflicts.specs.RunEndings.{IsUnderWay, IsGivenLog, MayTake, Ha
 use crate::bounds::{Bound, RaceBounds};
 use crate::conflicts::Conflicts;
 use crate::journaled_machine::JournaledMachine;
+use crate::origins::{EventOrigin, EventOrigins};
 use crate::segment::{Actor, Segment};
-use crate::transitions::{RunTransition, first_entry, process_of};
+use crate::transitions::first_entry;
 use accesses::{Does, Role, Site};
 use design::Design;
 use model::end::{End, Why};
@@ -19,13 +20,6 @@ use runs::run::RunRecord;
 use std::alloc::{AllocError, Global};
 use turn::{FillFault, Suspend, TurnLog};
 
-/// Who made an event: the process of a turn, or that of the turn that made an update, and its place in the journal.
-#[derive(Clone, Copy)]
-struct EventOrigin {
-    process: u32,
-    place: u32,
-}
-
 // The most events that are looked at which a run leaves behind as it finishes.
 const MOST_LEFT: usize = 1_024;
 
@@ -35,20 +29,17 @@ pub struct RunRecorder {
     /// Room for the turn of an event that the run leaves behind as it finishes.
     left: TurnLog,
     segment: Segment,
-    /// The number of the first event that an entry made.
-    first_made: u64,
-    /// Who made it and those that follow it, in the order of their numbers.
-    origins: Vec<EventOrigin>,
+    origins: EventOrigins,
     /// The process of each entry that is a turn, and 0 for others.
     pub processes: Vec<u32>,
     pub conflicts: Conflicts,
 }
 
-/// An entry that is about to be taken: its transition, the process that it is of where it is a turn or an update, and how many events
-/// it makes apart from those of the processes that it wakes.
+/// An entry that is about to be taken: the number that the transitions have for it, the process that it is of where it is a turn or an update,
+/// and how many events it makes apart from those of the processes that it wakes.
 #[derive(Clone, Copy)]
 pub(crate) struct Noted {
-    wanted: RunTransition,
+    number: u32,
     process: Option<u32>,
     own: u64,
 }
@@ -59,54 +50,9 @@ impl RunRecorder {
         RunRecorder {
             left: TurnLog::new(alloc),
             segment: Segment::new(alloc),
-            first_made: u64::from(design.processes()),
-            origins: Vec::new(alloc),
+            origins: EventOrigins::new(alloc, u64::from(design.processes())),
             processes: Vec::new(alloc),
             conflicts: Conflicts::new(alloc, bounds),
-        }
-    }
-
-    // Who made an event.
-    fn origin(&self, number: u64) -> Option<EventOrigin> {
-        let place = number.checked_sub(self.first_made)?;
-        self.origins.get(place as usize).copied()
-    }
-
-    // Notes what a turn read, and what it wrote.
-    fn note_values(&mut self, machine: &Machine<'_>, log: &TurnLog) {
-        for (register, _) in log.reads() {
-            self.segment
-                .access(Site::Register(*register), Does::Reads, false);
-        }
-        for turn_change in log.turn_changes() {
-            let changes = turn_change.changes > 0
-                || machine.value(turn_change.register) != Some(turn_change.first);
-            self.segment.access(Site::Register(turn_change.register), Does::Writes, changes);
-        }
-        for nba in log.nbas() {
-            self.segment.assign(nba.reg, nba.value, nba.due);
-        }
-    }
-
-    // Notes what a turn printed.
-    fn note_lines(&mut self, log: &TurnLog) {
-        if !log.lines().is_empty() {
-            self.segment.access(Site::Printing, Does::Prints, true);
-        }
-        if !log.strobes().is_empty() {
-            self.segment.access(Site::Strobing, Does::Strobes, true);
-        }
-    }
-
-    // Notes the registers for which the process of a turn begins to wait.
-    fn note_wait(&mut self, machine: &Machine<'_>, log: &TurnLog) {
-        if let Suspend::Event(control) = log.suspend() {
-            if let Some(control) = machine.design().event_controls().get(control) {
-                for trigger in control.triggers() {
-                    self.segment
-                        .access(Site::Register(trigger.1), Does::Waits, false);
-                }
-            }
         }
     }
 
@@ -119,17 +65,14 @@ impl RunRecorder {
         log: &TurnLog,
     ) -> Noted {
         if !self.segment.is_full() {
-            let origin = self.origin(number).map(|origin| origin.place as usize);
-            self.segment.step(Actor::Turn(process), origin);
-            self.note_values(machine, log);
-            self.note_lines(log);
-            self.note_wait(machine, log);
+            let origin = self.origins.place_of(number);
+            self.segment.turn(machine, process, origin, log);
         }
         if log.is_finish() {
             self.note_finish(machine, number);
         }
         Noted {
-            wanted: RunTransition::Turn(process),
+            number: process,
             process: Some(process),
             own: own_events(log),
         }
@@ -141,109 +84,110 @@ impl RunRecorder {
             return;
         }
         self.segment.finish();
-        for place in 0..machine.choices().len().min(MOST_LEFT) {
-            match machine.choices().get(place) {
-                Some(Entry::Turn(other)) => if other != number {
-                    self.note_left_turn(machine, other);
-                },
-                Some(Entry::Update(other)) => self.note_left_update(machine, other),
-                _ => {}
+        for place in 0..left_count(machine) {
+            if let Some(entry) = left_at(machine, place) {
+                self.note_left(machine, entry, number);
+            }
+        }
+    }
+
+    // Notes an event that is left behind by the turn of another one.
+    fn note_left(&mut self, machine: &Machine<'_>, left: Entry, number: u64) {
+        match left {
+            Entry::Turn(other) => if other != number {
+                self.note_left_turn(machine, other);
+            },
+            Entry::Update(other) => self.note_left_update(machine, other),
+            _ => {}
+        }
+    }
+
+    // What an evaluation that is left behind would do, and its process. Where memory is refused to its turn, the list of conflicts is cut.
+    fn left_role(&mut self, machine: &Machine<'_>, number: u64) -> Option<Role> {
+        match machine.evaluate(&mut self.left, number, 0) {
+            Ok(Some(process)) => Some(Role {
+                process,
+                does: runs_or_prints(&self.left),
+            }),
+            Ok(None) | Err(FillFault::TooLong) => None,
+            Err(FillFault::Memory) => {
+                self.conflicts.cut_by(Bound::Memory);
+                None
             }
         }
     }
 
     // Notes an evaluation that is left behind. Where memory is refused to its turn, the list of conflicts is cut.
     fn note_left_turn(&mut self, machine: &Machine<'_>, number: u64) {
-        let process = match machine.evaluate(&mut self.left, number, 0) {
-            Ok(Some(process)) => process,
-            Ok(None) => return,
-            Err(FillFault::TooLong) => return,
-            Err(FillFault::Memory) => {
-                self.conflicts.cut_by(Bound::Memory);
-                return;
-            }
-        };
-        let does = if self.left.lines().is_empty() {
-            Does::Runs
-        } else {
-            Does::Prints
-        };
-        self.segment.add_held_back(
-            &mut self.conflicts,
-            Site::Finishing,
-            Role { process, does },
-            Entry::Turn(number),
-        );
+        if let Some(role) = self.left_role(machine, number) {
+            self.add_held_back(Site::Finishing, role, Entry::Turn(number));
+        }
     }
 
     // Notes an update that is left behind.
     fn note_left_update(&mut self, machine: &Machine<'_>, number: u64) {
-        let process = match self.origin(number) {
-            Some(origin) => origin.process,
-            None => return,
+        let Some(origin) = self.origins.of(number) else {
+            return;
         };
         if let Some((register, _)) = machine.state().first_updated() {
-            self.segment.add_held_back(
-                &mut self.conflicts,
-                Site::Register(register),
-                Role {
-                    process,
-                    does: Does::Updates,
-                },
-                Entry::Update(number),
-            );
+            let role = Role {
+                process: origin.process,
+                does: Does::Updates,
+            };
+            self.add_held_back(Site::Register(register), role, Entry::Update(number));
         }
+    }
+
+    // Keeps the conflict of the entry that finishes the run with an event that it leaves behind.
+    fn add_held_back(&mut self, site: Site, role: Role, left: Entry) {
+        self.segment
+            .add_held_back(&mut self.conflicts, site, role, left);
     }
 
     // Notes an update. None where there is none.
     fn note_update(&mut self, machine: &Machine<'_>, number: u64) -> Option<Noted> {
-        let origin = self.origin(number)?;
+        let origin = self.origins.of(number)?;
         let (register, value) = machine.state().first_updated()?;
         if !self.segment.is_full() {
             let changes = machine.value(register) != Some(value);
-            self.segment
-                .step(Actor::Update(origin.process), Some(origin.place as usize));
-            self.segment
-                .access(Site::Register(register), Does::Updates, changes);
+            self.segment.update(origin, register, changes);
         }
         Some(Noted {
-            wanted: RunTransition::Update,
+            number: 0,
             process: Some(origin.process),
             own: 0,
         })
     }
 
     // Notes a change of the regions, at which the conflicts of the entries before it are found.
-    fn note_change(&mut self, change: Entry) -> Noted {
+    fn note_change(&mut self) -> Noted {
         self.segment.find_conflicts(&mut self.conflicts);
         Noted {
-            wanted: RunTransition::Change(change),
+            number: 0,
             process: None,
             own: 0,
         }
     }
 
-    // Notes who made so many events more. The answer is whether that could be noted.
-    fn note_made(&mut self, origin: EventOrigin, made: u64) -> bool {
-        let count = (self.origins.len() as u64).saturating_add(made);
-        self.origins.resize(count as usize, origin).is_ok()
+    // Notes the events that an entry at a place made. The answer is whether they could be noted.
+    fn note_made(&mut self, process: u32, place: usize, made: u64) -> bool {
+        match u32::try_from(place) {
+            Ok(place) => self.origins.add(EventOrigin { process, place }, made),
+            Err(_) => false,
+        }
     }
 
     // Notes that an entry was taken: its transition, and the events that it made. The answer is whether it could be noted.
     fn note_taken(&mut self, machine: &Machine<'_>, noted: Option<Noted>) -> bool {
-        let noted = match noted {
-            Some(noted) => noted,
-            None => return false,
+        let Some(noted) = noted else {
+            return false;
         };
         let place = self.processes.len();
-        let is_kept = self.processes.push(process_of(noted.wanted)).is_ok();
+        let is_kept = self.processes.push(noted.number).is_ok();
         match noted.process {
             Some(process) => {
                 let made = noted.own.saturating_add(machine.made().len() as u64);
-                match u32::try_from(place) {
-                    Ok(place) => is_kept & self.note_made(EventOrigin { process, place }, made),
-                    Err(_) => false,
-                }
+                is_kept & self.note_made(process, place, made)
             }
             None => {
                 self.segment.begin(place.saturating_add(1), machine.time());
@@ -252,27 +196,10 @@ impl RunRecorder {
         }
     }
 
-    // Notes that a run took an entry. Where it can't be noted, the run ends for want of memory.
-    fn taken(&mut self, run: &JournaledMachine<'_>, noted: Option<Noted>) -> Option<End>
-        ensures { IfSome result (EndsAt run.now) }
-    {
-        if self.note_taken(&run.machine, noted) {
-            None
-        } else {
-            Some(End::Stopped(Why::Memory))
-        }
-    }
-
     /// Forgets the conflicts that were found and the last entries: from here on only the next ones are compared, which begin at this place
     /// of the journal and this time.
-    pub(crate) fn begin_anew(
-        &mut self,
-        alloc: Global,
-        bounds: RaceBounds,
-        place: usize,
-        time: u64,
-    ) {
-        self.conflicts = Conflicts::new(alloc, bounds);
+    pub(crate) fn begin_anew(&mut self, bounds: RaceBounds, place: usize, time: u64) {
+        self.conflicts.begin_anew(bounds);
         self.segment.begin(place, time);
     }
 
@@ -280,6 +207,16 @@ impl RunRecorder {
     pub fn finish(&mut self) {
         self.segment.find_conflicts(&mut self.conflicts);
         self.segment.find_cut_off(&mut self.conflicts);
+    }
+
+    // Finds the conflicts of two entries alone. Fails where memory is refused.
+    fn finish_both(&mut self) -> Result<(), AllocError> {
+        self.finish();
+        self.segment.find_updating(&mut self.conflicts);
+        match self.conflicts.cut {
+            Some(Bound::Memory) => Err(AllocError),
+            _ => Ok(()),
+        }
     }
 }
 
@@ -292,7 +229,27 @@ fn own_events(log: &TurnLog) -> u64 {
     }
 }
 
-// Takes an entry of which this is noted, a turn by its log, or else answers how the run ends here.
+// How many events are looked at which a run leaves behind as it finishes.
+fn left_count(machine: &Machine<'_>) -> usize {
+    machine.choices().len().min(MOST_LEFT)
+}
+
+// The event at a place of those that a run leaves behind as it finishes.
+fn left_at(machine: &Machine<'_>, place: usize) -> Option<Entry> {
+    machine.choices().get(place)
+}
+
+// What a turn with this log does where it is cut off: it prints, or runs.
+fn runs_or_prints(log: &TurnLog) -> Does {
+    if log.lines().is_empty() {
+        Does::Runs
+    } else {
+        Does::Prints
+    }
+}
+
+// Takes an entry of which this is noted, a turn by its log, or else answers how the run ends here. Where it can't be noted, that is for want
+// of memory.
 fn recorder_step(
     run: &mut JournaledMachine<'_>,
     recorder: &mut RunRecorder,
@@ -307,7 +264,11 @@ fn recorder_step(
     if let Some(end) = run.step(entry, log) {
         return Some(end);
     }
-    recorder.taken(run, noted)
+    if recorder.note_taken(&run.machine, noted) {
+        None
+    } else {
+        Some(End::Stopped(Why::Memory))
+    }
 }
 
 // Evaluates a turn into a log, notes it, and takes it by that log, or else answers how the run ends here. One that can't be evaluated
@@ -343,7 +304,7 @@ fn record_given(
     let noted = match entry {
         Entry::Turn(number) => return recorder_turn(run, recorder, log, number),
         Entry::Update(number) => recorder.note_update(&run.machine, number),
-        change => Some(recorder.note_change(change)),
+        _ => Some(recorder.note_change()),
     };
     recorder_step(run, recorder, entry, None, noted)
 }
@@ -389,6 +350,29 @@ fn record_all(
     Ok(true)
 }
 
+// Takes the entries of a journal up to the one at a place and the one behind that, with a log for its turns, and notes what these two do
+// alone. Fails where memory is refused.
+fn record_both(
+    run: &mut JournaledMachine<'_>,
+    recorder: &mut RunRecorder,
+    log: &mut TurnLog,
+    bounds: RaceBounds,
+    journal: &[Entry],
+    place: usize,
+) -> Result<(), AllocError>
+    requires { IsUnderWay run.old }
+    ensures { HasGoneOn run.old run.new }
+{
+    let (before, rest) = journal.split_at(place.min(journal.len()));
+    let (two, _) = rest.split_at(rest.len().min(2));
+    if !record_all(run, recorder, log, before)? {
+        return Ok(());
+    }
+    recorder.begin_anew(bounds, place, run.machine.time());
+    let _ = record_all(run, recorder, log, two)?;
+    recorder.finish_both()
+}
+
 /// Takes the entries of a journal up to the one at a place and the one behind that, and notes what these two do alone. Fails where memory
 /// is refused.
 pub fn record_two(
@@ -403,19 +387,29 @@ pub fn record_two(
     ensures { HasGoneOn run.old run.new }
 {
     let mut log = TurnLog::new(alloc);
-    let (before, rest) = journal.split_at(place.min(journal.len()));
-    let (two, _) = rest.split_at(rest.len().min(2));
-    if !record_all(run, recorder, &mut log, before)? {
-        return Ok(());
+    let recorded = record_both(run, recorder, &mut log, bounds, journal, place);
+    drop(log);
+    recorded
+}
+
+// Takes the first entry that may be next at each choice, with a log for the turns, and answers how the run ends.
+fn record_along<P: Progress>(
+    run: &mut JournaledMachine<'_>,
+    recorder: &mut RunRecorder,
+    log: &mut TurnLog,
+    progress: &P,
+) -> End
+    requires { IsUnderWay run.old }
+    ensures went { HasGoneOn run.old run.new }
+    ensures ends { EndsAt run.new result }
+{
+    for _ in 0..run.limits.max_entries {
+        if let Some(end) = record_entry(run, recorder, log) {
+            return end;
+        }
+        tell_entries(progress, run.journal.len() as u64, run.machine.time());
     }
-    recorder.begin_anew(alloc, bounds, place, run.machine.time());
-    let _ = record_all(run, recorder, &mut log, two)?;
-    recorder.finish();
-    recorder.segment.find_updating(&mut recorder.conflicts);
-    match recorder.conflicts.cut {
-        Some(Bound::Memory) => Err(AllocError),
-        _ => Ok(()),
-    }
+    run.last_end()
 }
 
 /// Makes the first run, which takes the first entry that may be next at each choice, from its start.
@@ -429,12 +423,7 @@ pub fn record_run<P: Progress>(
     ensures { IsRun run.old.machine.code run.old.limits result }
 {
     let mut log = TurnLog::new(alloc);
-    for _ in 0..run.limits.max_entries {
-        if let Some(end) = record_entry(run, recorder, &mut log) {
-            return run.told(alloc, end);
-        }
-        tell_entries(progress, run.journal.len() as u64, run.machine.time());
-    }
-    let end = run.last_end();
+    let end = record_along(run, recorder, &mut log, progress);
+    drop(log);
     run.told(alloc, end)
 }

@@ -71,6 +71,29 @@ struct Assign {
     due: u64,
 }
 
+/// Steps, and how many turns each process had among them. Where there is none, no other is looked for.
+#[derive(Drop)]
+struct StepList {
+    list: Vec<SegmentStep>,
+    turns_by: OccurrenceCounts,
+}
+
+/// Accesses, and how many each site had among them. Where there is just one, no other is looked for.
+#[derive(Drop)]
+struct AccessList {
+    list: Vec<Access>,
+    counts: OccurrenceCounts,
+    /// More than the number of each site that was ever accessed.
+    sites: usize,
+}
+
+/// Nonblocking assignments, and how many each register had among them. Where there is just one, no other is looked for.
+#[derive(Drop)]
+struct AssignList {
+    list: Vec<Assign>,
+    counts: OccurrenceCounts,
+}
+
 /// The entries since the last change of the regions.
 #[derive(Drop)]
 pub(crate) struct Segment {
@@ -78,16 +101,9 @@ pub(crate) struct Segment {
     /// The place in the journal of the first of them.
     begin: usize,
     time: u64,
-    steps: Vec<SegmentStep>,
-    accesses: Vec<Access>,
-    assigns: Vec<Assign>,
-    /// How many turns each process had, how many accesses each site, and how many assignments each register. Where there is just one, no
-    /// other is looked for.
-    turns_by: OccurrenceCounts,
-    accesses_to: OccurrenceCounts,
-    assigns_to: OccurrenceCounts,
-    /// More than the number of each site that was accessed.
-    sites: usize,
+    steps: StepList,
+    accesses: AccessList,
+    assigns: AssignList,
     /// Which steps each step needs, once all are noted.
     needed: NeededSteps,
     /// The step that finishes the run, if one does.
@@ -103,6 +119,109 @@ impl Access {
     }
 }
 
+impl StepList {
+    // No steps.
+    fn new(alloc: Global) -> StepList {
+        StepList {
+            list: Vec::new(alloc),
+            turns_by: OccurrenceCounts::new(alloc),
+        }
+    }
+
+    // Forgets the steps.
+    fn clear(&mut self) {
+        for step in self.list.iter() {
+            self.turns_by.forget(step.actor.process() as usize);
+        }
+        self.list.clear();
+    }
+
+    // The last step that keeps its order with one of this actor in every run, if there is one.
+    fn last_ordered(&self, actor: Actor) -> Option<usize> {
+        match actor {
+            Actor::Turn(process) if self.turns_by.of(process as usize) == 0 => None,
+            _ => self.list.iter().rposition(|s| s.actor.is_ordered(actor)),
+        }
+    }
+
+    // Keeps a step, and counts the turns of each process.
+    fn push(&mut self, step: SegmentStep) -> Result<(), AllocError> {
+        self.list.push(step)?;
+        match step.actor {
+            Actor::Turn(process) => self.turns_by.add(process as usize),
+            Actor::Update(_) => Ok(()),
+        }
+    }
+
+    // The last step makes nonblocking assignments.
+    fn assigns(&mut self) {
+        if let Some(last) = self.list.last_mut() {
+            last.assigns = true;
+        }
+    }
+}
+
+impl AccessList {
+    // No accesses.
+    fn new(alloc: Global) -> AccessList {
+        AccessList {
+            list: Vec::new(alloc),
+            counts: OccurrenceCounts::new(alloc),
+            sites: 0,
+        }
+    }
+
+    // Forgets the accesses.
+    fn clear(&mut self) {
+        for access in self.list.iter() {
+            self.counts.forget(access.site_number());
+        }
+        self.list.clear();
+    }
+
+    // Keeps an access, and counts those to each site.
+    fn push(&mut self, access: Access) -> Result<(), AllocError> {
+        let number = access.site_number();
+        self.sites = self.sites.max(number.saturating_add(1));
+        self.list.push(access)?;
+        self.counts.add(number)
+    }
+}
+
+impl AssignList {
+    // No assignments.
+    fn new(alloc: Global) -> AssignList {
+        AssignList {
+            list: Vec::new(alloc),
+            counts: OccurrenceCounts::new(alloc),
+        }
+    }
+
+    // Forgets the assignments.
+    fn clear(&mut self) {
+        for assign in self.list.iter() {
+            self.counts.forget(assign.register as usize);
+        }
+        self.list.clear();
+    }
+
+    // Keeps an assignment, in place of an earlier one of its step, and counts those to each register.
+    fn push(&mut self, assign: Assign) -> Result<(), AllocError> {
+        if self.counts.of(assign.register as usize) > 0 {
+            self.list.retain(|other| !other.is_replaced_by(assign));
+        }
+        self.list.push(assign)?;
+        self.counts.add(assign.register as usize)
+    }
+}
+
+impl Assign {
+    // Whether another one of the same step goes to the same register, for the same time.
+    fn is_replaced_by(&self, other: Assign) -> bool {
+        self.step == other.step && self.register == other.register && self.due == other.due
+    }
+}
+
 impl Segment {
     /// No entries yet, at the first place of a journal and time 0.
     pub(crate) fn new(alloc: Global) -> Segment {
@@ -110,35 +229,17 @@ impl Segment {
             alloc,
             begin: 0,
             time: 0,
-            steps: Vec::new(alloc),
-            accesses: Vec::new(alloc),
-            assigns: Vec::new(alloc),
-            turns_by: OccurrenceCounts::new(alloc),
-            accesses_to: OccurrenceCounts::new(alloc),
-            assigns_to: OccurrenceCounts::new(alloc),
-            sites: 0,
+            steps: StepList::new(alloc),
+            accesses: AccessList::new(alloc),
+            assigns: AssignList::new(alloc),
             needed: NeededSteps::new(alloc),
             finishing: None,
             cut: None,
         }
     }
 
-    // Counts no more what the entries did.
-    fn forget(&mut self) {
-        for step in self.steps.iter() {
-            self.turns_by.forget(step.actor.process() as usize);
-        }
-        for access in self.accesses.iter() {
-            self.accesses_to.forget(access.site_number());
-        }
-        for assign in self.assigns.iter() {
-            self.assigns_to.forget(assign.register as usize);
-        }
-    }
-
     /// Begins anew, at this place of the journal and this time.
     pub(crate) fn begin(&mut self, place: usize, time: u64) {
-        self.forget();
         self.begin = place;
         self.time = time;
         self.steps.clear();
@@ -156,20 +257,11 @@ impl Segment {
         }
     }
 
-    // The last step that keeps its order with one of this actor in every run, if there is one.
-    fn last_ordered(&self, actor: Actor) -> Option<usize> {
-        match actor {
-            Actor::Turn(process) if self.turns_by.of(process as usize) == 0 => None,
-            _ => self.steps.iter().rposition(|s| s.actor.is_ordered(actor)),
-        }
-    }
-
-    // Keeps a step, and counts the turns of each process.
-    fn keep(&mut self, step: SegmentStep) -> Result<(), AllocError> {
-        self.steps.push(step)?;
-        match step.actor {
-            Actor::Turn(process) => self.turns_by.add(process as usize),
-            Actor::Update(_) => Ok(()),
+    // The step whose entry stands at a place of the journal, where it isn't before the first one.
+    fn step_of(&self, origin: Option<usize>) -> Option<usize> {
+        match origin {
+            Some(place) => place.checked_sub(self.begin),
+            None => None,
         }
     }
 
@@ -177,18 +269,19 @@ impl Segment {
     pub(crate) fn step(&mut self, actor: Actor, origin: Option<usize>) {
         let step = SegmentStep {
             actor,
-            cause: origin.and_then(|place| place.checked_sub(self.begin)),
-            before: self.last_ordered(actor),
-            accesses: self.accesses.len(),
+            cause: self.step_of(origin),
+            before: self.steps.last_ordered(actor),
+            accesses: self.accesses.list.len(),
             assigns: false,
         };
-        let kept = self.keep(step);
+        let kept = self.steps.push(step);
         self.noted(kept);
     }
 
     /// Whether there is no room for one more entry. Then there is none until the next change of the regions.
     pub(crate) fn is_full(&mut self) -> bool {
-        let is_long = self.steps.len() >= MOST_STEPS || self.accesses.len() >= MOST_ACCESSES;
+        let is_long = self.steps.list.len() >= MOST_STEPS
+            || self.accesses.list.len() >= MOST_ACCESSES;
         if is_long && self.cut.is_none() {
             self.cut = Some(Bound::Steps);
         }
@@ -197,26 +290,12 @@ impl Segment {
 
     /// The last entry finishes the run.
     pub(crate) fn finish(&mut self) {
-        self.finishing = self.steps.len().checked_sub(1);
+        self.finishing = self.steps.list.len().checked_sub(1);
     }
 
     // The place of the last step.
     fn last_step(&self) -> usize {
-        self.steps.len().saturating_sub(1)
-    }
-
-    // Keeps an access of the last step, and counts those to each site.
-    fn keep_access(&mut self, site: Site, does: Does, changes: bool) -> Result<(), AllocError> {
-        let access = Access {
-            step: self.last_step(),
-            site,
-            does,
-            changes,
-        };
-        let number = access.site_number();
-        self.sites = self.sites.max(number.saturating_add(1));
-        self.accesses.push(access)?;
-        self.accesses_to.add(number)
+        self.steps.list.len().saturating_sub(1)
     }
 
     /// What the last entry does at a site.
@@ -224,23 +303,14 @@ impl Segment {
         if self.cut.is_some() {
             return;
         }
-        let kept = self.keep_access(site, does, changes);
+        let access = Access {
+            step: self.last_step(),
+            site,
+            does,
+            changes,
+        };
+        let kept = self.accesses.push(access);
         self.noted(kept);
-    }
-
-    // Keeps an assignment of the last step, in place of an earlier one of it, and counts those to each register.
-    fn keep_assign(&mut self, register: RegId, value: Bits, due: u64) -> Result<(), AllocError> {
-        let step = self.last_step();
-        if self.assigns_to.of(register as usize) > 0 {
-            self.assigns.retain(|a| a.step != step || a.register != register || a.due != due);
-        }
-        self.assigns.push(Assign {
-            step,
-            register,
-            value,
-            due,
-        })?;
-        self.assigns_to.add(register as usize)
     }
 
     /// A nonblocking assignment of the last entry.
@@ -248,42 +318,45 @@ impl Segment {
         if self.cut.is_some() {
             return;
         }
-        if let Some(last) = self.steps.last_mut() {
-            last.assigns = true;
-        }
-        let kept = self.keep_assign(register, value, due);
+        self.steps.assigns();
+        let assign = Assign {
+            step: self.last_step(),
+            register,
+            value,
+            due,
+        };
+        let kept = self.assigns.push(assign);
         self.noted(kept);
     }
 
     /// The step at a place, if there is one.
     pub(crate) fn step_at(&self, at: usize) -> Option<SegmentStep> {
-        self.steps.get(at).copied()
+        self.steps.list.get(at).copied()
     }
 
     /// More than the number of each site that was accessed.
     pub(crate) fn sites(&self) -> usize {
-        self.sites
+        self.accesses.sites
+    }
+
+    // The place of the first access of a step, or that behind all of them where there is no such step.
+    fn first_access(&self, step: usize) -> usize {
+        match self.steps.list.get(step) {
+            Some(step) => step.accesses,
+            None => self.accesses.list.len(),
+        }
     }
 
     /// What a step does at the sites.
     pub(crate) fn accesses_of(&self, step: usize) -> &[Access] {
-        let from = match self.steps.get(step) {
-            Some(step) => step.accesses,
-            None => return &[],
-        };
-        let until = match self.steps.get(step.saturating_add(1)) {
-            Some(next) => next.accesses,
-            None => self.accesses.len(),
-        };
-        match self.accesses.get(from..until) {
-            Some(accesses) => accesses,
-            None => &[],
-        }
+        let from = self.first_access(step);
+        let until = self.first_access(step.saturating_add(1));
+        accesses_between(&self.accesses.list, from, until)
     }
 
     // The role of a step.
     fn role(&self, step: usize, does: Does) -> Option<Role> {
-        let process = self.steps.get(step)?.actor.process();
+        let process = self.steps.list.get(step)?.actor.process();
         Some(Role { process, does })
     }
 
@@ -324,7 +397,7 @@ impl Segment {
 
     // Whether a step is known to need an earlier one: itself, or by another one where that was found.
     fn comes_of(&self, later: usize, earlier: usize) -> bool {
-        match self.steps.get(later) {
+        match self.steps.list.get(later) {
             Some(step) => {
                 step.cause == Some(earlier)
                     || step.before == Some(earlier)
@@ -356,7 +429,7 @@ impl Segment {
 
     // Keeps the conflicts of an access that changes what stands at its site.
     fn conflicts_of(&self, conflicts: &mut Conflicts, one: Access) {
-        for other in self.accesses.iter() {
+        for other in self.accesses.list.iter() {
             if one.site == other.site {
                 let here = (one.step, one.does);
                 let there = (other.step, other.does);
@@ -371,7 +444,7 @@ impl Segment {
 
     // Keeps the conflicts of a nonblocking assignment with those of later steps.
     fn conflicts_by(&self, conflicts: &mut Conflicts, one: Assign) {
-        for other in self.assigns.iter() {
+        for other in self.assigns.list.iter() {
             let is_same = one.register == other.register && one.due == other.due;
             if is_same && one.step < other.step && one.value != other.value {
                 let here = (one.step, Does::Assigns);
@@ -384,8 +457,8 @@ impl Segment {
     // Finds which steps need which. Of two steps that shows by themselves. Where memory is refused, nothing is found, and that of two steps
     // the later one doesn't need the earlier one is found for each two anew.
     fn find_needed(&mut self) {
-        if self.steps.len() > 2 {
-            let _ = self.needed.find(&self.steps);
+        if self.steps.list.len() > 2 {
+            let _ = self.needed.find(&self.steps.list);
         }
     }
 
@@ -400,13 +473,13 @@ impl Segment {
 
     // Keeps the conflicts of the accesses, and those of the nonblocking assignments.
     fn keep_conflicts(&self, conflicts: &mut Conflicts) {
-        for one in self.accesses.iter() {
-            if one.changes && self.accesses_to.of(one.site_number()) > 1 {
+        for one in self.accesses.list.iter() {
+            if one.changes && self.accesses.counts.of(one.site_number()) > 1 {
                 self.conflicts_of(conflicts, *one);
             }
         }
-        for one in self.assigns.iter() {
-            if self.assigns_to.of(one.register as usize) > 1 {
+        for one in self.assigns.list.iter() {
+            if self.assigns.counts.of(one.register as usize) > 1 {
                 self.conflicts_by(conflicts, *one);
             }
         }
@@ -466,7 +539,7 @@ impl Segment {
         second: Role,
         other: Entry,
     ) {
-        let last = self.steps.len().saturating_sub(1);
+        let last = self.last_step();
         let place = self.begin.saturating_add(last);
         let first = match self.role(last, Does::Finishes) {
             Some(first) => first,
@@ -493,6 +566,15 @@ impl Segment {
             steps,
             is_tied: false,
         }))
+    }
+}
+
+// The accesses between two places, if there are so many.
+fn accesses_between(accesses: &[Access], from: usize, until: usize) -> &[Access] {
+    if from <= until && until <= accesses.len() {
+        &accesses[from..until]
+    } else {
+        &[]
     }
 }
 

@@ -35,13 +35,27 @@ impl<'a> RunTransitions<'a> {
 
     /// That of the entry at a place.
     pub fn get(&self, place: usize) -> Option<RunTransition> {
-        let process = self.processes.get(place).copied()?;
-        let entry = self.journal.get(place).copied()?;
-        match entry {
-            Entry::Turn(_) => Some(RunTransition::Turn(process)),
-            Entry::Update(_) => Some(RunTransition::Update),
-            change => Some(RunTransition::Change(change)),
+        if place >= self.processes.len() || place >= self.journal.len() {
+            return None;
         }
+        Some(transition_by(self.journal[place], self.processes[place]))
+    }
+
+    // The change of the regions at a place, if it is one.
+    fn change_at(&self, place: usize) -> Option<Entry> {
+        match self.get(place) {
+            Some(RunTransition::Change(change)) => Some(change),
+            _ => None,
+        }
+    }
+}
+
+// The transition of an entry, which is a turn of this process if it is one.
+fn transition_by(entry: Entry, process: u32) -> RunTransition {
+    match entry {
+        Entry::Turn(_) => RunTransition::Turn(process),
+        Entry::Update(_) => RunTransition::Update,
+        change => RunTransition::Change(change),
     }
 }
 
@@ -53,27 +67,44 @@ pub fn process_of(transition: RunTransition) -> u32 {
     }
 }
 
+// The process of an active evaluation, if there is one with this number.
+fn process_at(machine: &Machine<'_>, number: u64) -> Option<u32> {
+    match machine.state().evaluation(number) {
+        Some((process, _)) => Some(process),
+        None => None,
+    }
+}
+
+// Whether an entry is a turn of a process, where the machine stands.
+fn is_turn_of(machine: &Machine<'_>, entry: Entry, process: u32) -> bool {
+    match entry {
+        Entry::Turn(number) => process_at(machine, number) == Some(process),
+        _ => false,
+    }
+}
+
+// Whether an entry is an update.
+fn is_update(entry: Entry) -> bool {
+    match entry {
+        Entry::Update(_) => true,
+        _ => false,
+    }
+}
+
 // Whether an entry is of this transition, where the machine stands.
 fn is_of(machine: &Machine<'_>, entry: Entry, wanted: RunTransition) -> bool {
-    match (wanted, entry) {
-        (RunTransition::Turn(process), Entry::Turn(number)) => match machine
-            .state()
-            .evaluation(number)
-        {
-            Some((of, _)) => of == process,
-            None => false,
-        },
-        (RunTransition::Update, Entry::Update(_)) => true,
-        (RunTransition::Change(change), _) => change == entry,
-        _ => false,
+    match wanted {
+        RunTransition::Turn(process) => is_turn_of(machine, entry, process),
+        RunTransition::Update => is_update(entry),
+        RunTransition::Change(change) => change == entry,
     }
 }
 
 /// The transition of an entry that may be next.
 pub fn transition_of(machine: &Machine<'_>, entry: Entry) -> RunTransition {
     match entry {
-        Entry::Turn(number) => match machine.state().evaluation(number) {
-            Some((process, _)) => RunTransition::Turn(process),
+        Entry::Turn(number) => match process_at(machine, number) {
+            Some(process) => RunTransition::Turn(process),
             None => RunTransition::Change(entry),
         },
         Entry::Update(_) => RunTransition::Update,
@@ -152,7 +183,7 @@ fn is_earlier(entry: Entry, change: Entry) -> bool {
 /// The place of the first change of the regions behind a place, or the end of the transitions.
 pub fn next_change(transitions: RunTransitions<'_>, place: usize) -> usize {
     for at in place..transitions.len() {
-        if let Some(RunTransition::Change(_)) = transitions.get(at) {
+        if transitions.change_at(at).is_some() {
             return at;
         }
     }
@@ -168,16 +199,20 @@ pub fn is_change(transitions: RunTransitions<'_>, place: usize) -> bool {
     }
 }
 
+// The place behind a change of the regions, where this one at a place is that, or the place of this one, where it is due later.
+fn behind_change(at: Option<Entry>, place: usize, change: Entry) -> Option<usize> {
+    match at {
+        Some(other) if other == change => Some(place.saturating_add(1)),
+        Some(other) if is_earlier(change, other) => Some(place),
+        _ => None,
+    }
+}
+
 /// From a place on, the place behind a change of the regions, or that of the first one that is due later, or the end of the transitions.
 pub fn place_behind(transitions: RunTransitions<'_>, from: usize, change: Entry) -> usize {
     for place in from..transitions.len() {
-        if let Some(RunTransition::Change(other)) = transitions.get(place) {
-            if other == change {
-                return place.saturating_add(1);
-            }
-            if is_earlier(change, other) {
-                return place;
-            }
+        if let Some(behind) = behind_change(transitions.change_at(place), place, change) {
+            return behind;
         }
     }
     transitions.len()

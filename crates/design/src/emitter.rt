@@ -13,7 +13,7 @@ ghost use Rattle.design.specs.Emitter.{emitted_of, assign_node};
 use crate::code::{LinePiece, Node, Op, Span};
 use crate::control::{Control, RegId, Trigger};
 use crate::extents::Extent;
-use crate::room::room_of;
+use crate::room::{Room, room_of};
 use crate::sizes::width_of;
 use crate::tree::{Expression, Process, Statement};
 use std::alloc::{AllocError, Global};
@@ -95,14 +95,25 @@ impl Emitter {
     ) -> Result<Emitter, AllocError>
         ensures { IfOk result (λ made. emitted_of made ≡ record { nodes = []; ops = []; shown = []; controls = [] }) }
     {
-        let room = room_of(processes);
         let nodes = statements.saturating_add(processes.len());
-        Ok(Emitter {
-            nodes: Vec::with_capacity(alloc, nodes)?,
-            ops: Vec::with_capacity(alloc, room.ops)?,
-            shown: Vec::with_capacity(alloc, room.shown)?,
-            controls: Vec::with_capacity(alloc, room.controls)?,
-        })
+        let mut emitter = Emitter {
+            nodes: Vec::new(alloc),
+            ops: Vec::new(alloc),
+            shown: Vec::new(alloc),
+            controls: Vec::new(alloc),
+        };
+        emitter.make_room(nodes, room_of(processes))?;
+        Ok(emitter)
+    }
+
+    // Room for so many nodes, and for what stands beside them.
+    fn make_room(&mut self, nodes: usize, room: Room) -> Result<(), AllocError>
+        ensures { OnOk result (emitted_of self.new ≡ emitted_of self.old) }
+    {
+        self.nodes.reserve_exact(nodes)?;
+        self.ops.reserve_exact(room.ops)?;
+        self.shown.reserve_exact(room.shown)?;
+        self.controls.reserve_exact(room.controls)
     }
 
     /// The same code, in no more room than it needs.

@@ -3,8 +3,8 @@ ghost use Rattle.std.specs.Prelude.{◌≡◌, ◌<◌, ◌≤◌, ◌+◌, ◌^
 ghost use Rattle.std.specs.List.{All};
 ghost use Rattle.design.specs.Sound.{AreWidths, IsSound, AreSoundStatements};
 ghost use Rattle.design.specs.DesignTrees.{statements_of, process_of, tree_design};
-ghost use Rattle.design.specs.Extents.{IsMeasured};
-ghost use Rattle.design.specs.Emit.{with_node, with_bodies, starts_of, end_node, end_nodes, all_code};
+ghost use Rattle.design.specs.Extents.{IsMeasured, all_extents};
+ghost use Rattle.design.specs.Emit.{nothing_yet, with_node, with_bodies, starts_of, end_node, end_nodes, all_code};
 ghost use Rattle.design.specs.CodePlaces.{statement_count};
 ghost use Rattle.design.specs.Emitter.{emitted_of};
 
@@ -61,6 +61,27 @@ impl Emitter {
         }
         Ok(())
     }
+
+    // The code of processes, where none is yet, by the table of what their statements reach to, and where they begin.
+    fn emit_each(
+        &mut self,
+        alloc: Global,
+        widths: &[u32],
+        table: &[Extent],
+        processes: &[Process],
+    ) -> Result<Vec<usize>, AllocError>
+        requires sound { IsSound (tree_design widths.now processes.now) }
+        requires empty { emitted_of self.old ≡ nothing_yet }
+        requires tabled { table.now ≡ all_extents 0 (map process_of processes.now) }
+        ensures code { IfOk result (λ starts. emitted_of self.new ≡ all_code widths.now (statement_count (tree_design widths.now processes.now)) (map process_of processes.now)) }
+        ensures starts { IfOk result (λ starts. starts.items ≡ starts_of 0 (statement_count (tree_design widths.now processes.now)) (map process_of processes.now)) }
+    {
+        let end = table.len();
+        let starts = self.emit_bodies(alloc, widths, table, processes, end)?;
+        self.emit_ends(processes, &starts)?;
+        self.give_back();
+        Ok(starts)
+    }
 }
 
 /// The code of the processes of a design, and where they begin.
@@ -74,10 +95,7 @@ pub fn emit_processes(
     ensures starts { IfOk result (λ made. made.1.items ≡ starts_of 0 (statement_count (tree_design widths.now processes.now)) (map process_of processes.now)) }
 {
     let table = extents_of(alloc, processes)?;
-    let end = table.len();
-    let mut emitter = Emitter::new(alloc, end, processes)?;
-    let starts = emitter.emit_bodies(alloc, widths, &table, processes, end)?;
-    emitter.emit_ends(processes, &starts)?;
-    emitter.give_back();
+    let mut emitter = Emitter::new(alloc, table.len(), processes)?;
+    let starts = emitter.emit_each(alloc, widths, &table, processes)?;
     Ok((emitter, starts))
 }

@@ -4,7 +4,7 @@ use crate::behind::Following;
 use crate::lexemes::begins_number;
 use crate::notes::Note;
 use crate::reserved::{is_name, is_reserved};
-use crate::words::{Advice, is_same};
+use crate::words::{Advice, is_one_of, is_same};
 use tokens::spans::is_letter;
 
 /// Whether a body is to follow.
@@ -167,14 +167,29 @@ fn has_range(text: &[u8], note: Option<Note>) -> bool {
     }
 }
 
+/// The texts behind which a statement or an item can begin.
+const BEGINNINGS: &[&[u8]] = &[
+    b";",
+    b")",
+    b"begin",
+    b"end",
+    b"else",
+    b"initial",
+    b"always",
+    b"fork",
+    b"join",
+    b"endcase",
+    b"endtask",
+    b"endfunction",
+    b"endgenerate",
+    b"endspecify",
+    b"endtable",
+    b"endprimitive",
+];
+
 /// Whether a statement or an item can begin behind a text, other than a delay.
 fn begins_behind(text: &[u8]) -> bool {
-    match text {
-        b";" | b")" | b"begin" | b"end" | b"else" | b"initial" | b"always" => true,
-        b"fork" | b"join" | b"endcase" | b"endtask" | b"endfunction" => true,
-        b"endgenerate" | b"endspecify" | b"endtable" | b"endprimitive" => true,
-        _ => false,
-    }
+    is_one_of(text, BEGINNINGS)
 }
 
 /// Whether a note is one on a word behind which instances are named.

@@ -63,6 +63,23 @@ fn push_blank(text: &mut String, c: char) -> Result<(), AllocError> {
     Ok(())
 }
 
+/// Adds a line, and a caret below where its second part begins. What is shown of the first one is gathered apart.
+fn push_parts(
+    text: &mut String,
+    shown: &mut String,
+    front: &[u8],
+    back: &[u8],
+) -> Result<(), AllocError> {
+    push_part(shown, front)?;
+    text.push_str(shown)?;
+    push_part(text, back)?;
+    text.push('\n')?;
+    for c in shown.chars() {
+        push_blank(text, c)?;
+    }
+    text.push_str("^\n")
+}
+
 /// Adds the line of a location, and a caret below the location. A very long line isn't shown.
 fn push_line(
     alloc: Global,
@@ -76,14 +93,7 @@ fn push_line(
         return Ok(());
     }
     let mut shown = String::new(alloc);
-    push_part(&mut shown, front)?;
-    text.push_str(&shown)?;
-    push_part(text, back)?;
-    text.push('\n')?;
-    for c in shown.chars() {
-        push_blank(text, c)?;
-    }
-    text.push_str("^\n")
+    push_parts(text, &mut shown, front, back)
 }
 
 /// Where a message stands: in a file, and at which line and column, if that is known.

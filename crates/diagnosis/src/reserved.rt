@@ -1,15 +1,28 @@
 //! The words of the language, and names.
 
-use crate::words::advice_of;
+use crate::words::{advice_of, is_one_of};
 use tokens::spans::is_letter;
+
+/// The words of the language.
+const RESERVED: &[&[u8]] = &[
+    b"module",
+    b"endmodule",
+    b"reg",
+    b"initial",
+    b"always",
+    b"begin",
+    b"end",
+    b"if",
+    b"else",
+    b"while",
+    b"posedge",
+    b"negedge",
+    b"or",
+];
 
 /// Whether a text is a word of the language.
 pub(crate) fn is_reserved(text: &[u8]) -> bool {
-    match text {
-        b"module" | b"endmodule" | b"reg" | b"initial" | b"always" | b"begin" | b"end" => true,
-        b"if" | b"else" | b"while" | b"posedge" | b"negedge" | b"or" => true,
-        _ => false,
-    }
+    is_one_of(text, RESERVED)
 }
 
 /// Whether a text is a name: a word that Verilog doesn't reserve.

@@ -1,6 +1,6 @@
 //! The words of Verilog that the language lacks, and what to write instead.
 
-ghost use Rattle.std.specs.Prelude.{◌≡◌};
+ghost use Rattle.std.specs.Prelude.{◌≡◌, map};
 ghost use Rattle.std.specs.Str.{bytes_eq};
 ghost use Rattle.diagnosis.specs.SameAdvice.{same_advice};
 ghost use Rattle.diagnosis.specs.LackedWords as spec;
@@ -269,11 +269,11 @@ const WORDS: &[(&[u8], Advice)] = &[
     (b"$monitorh", Advice::Monitor),
 ];
 
-/// The advice on a word of the table.
-fn advice_in_table(text: &[u8]) -> Option<Advice>
-    ensures { result ≡ spec.advice_in spec.lacked_words text.now }
+/// The advice that a table has on a word.
+fn advice_in(table: &[(&[u8], Advice)], text: &[u8]) -> Option<Advice>
+    ensures { result ≡ spec.advice_in (map (λ row. (row.0.now, row.1)) table.now) text.now }
 {
-    let mut left = WORDS;
+    let mut left = table;
     while let [(word, advice), rest @ ..] = left {
         if is_same(text, word) {
             return Some(*advice);
@@ -281,6 +281,13 @@ fn advice_in_table(text: &[u8]) -> Option<Advice>
         left = rest;
     }
     None
+}
+
+/// The advice on a word that the language lacks.
+fn advice_in_table(text: &[u8]) -> Option<Advice>
+    ensures { result ≡ spec.advice_in spec.lacked_words text.now }
+{
+    advice_in(WORDS, text)
 }
 
 /// Whether notes with these advices are of one kind.
@@ -295,6 +302,16 @@ pub(crate) fn is_same(text: &[u8], word: &[u8]) -> bool
     ensures { result ≡ bytes_eq text.now word.now }
 {
     text == word
+}
+
+/// Whether a text is one of these words.
+pub(crate) fn is_one_of(text: &[u8], words: &[&[u8]]) -> bool {
+    for word in words {
+        if is_same(text, word) {
+            return true;
+        }
+    }
+    false
 }
 
 /// The advice on a directive, and on any system name that the language lacks.

@@ -2,6 +2,7 @@
 pub mod Bodies
 pub mod Found
 pub mod Lookups
+pub mod Reading
 pub mod Settled
 pub mod Sizes
 pub mod Sound

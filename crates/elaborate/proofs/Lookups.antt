@@ -1,5 +1,5 @@
 -- The registers as a list of pairs, and as the program holds them.
-use Rattle.std.proofs.Common.{◌≡◌, ℕ, zero, suc, nat_lt, nat_le, ◌<◌, ◌≤◌, Bool, true, false, ◌||◌, List, [], ◌∷◌, ◌++◌, map, length, get_or, Option, None, refl, sym, ap, ◌∙◌, unwrap_or, position, arith, add-one, length-append}
+use Rattle.std.proofs.Common.{◌≡◌, ℕ, zero, suc, nat_lt, nat_le, ◌<◌, ◌≤◌, Bool, true, false, ◌||◌, List, [], ◌∷◌, ◌++◌, map, length, get_or, Option, None, refl, sym, ap, subst, ◌∙◌, unwrap_or, position, arith, add-one, length-append}
 use Rattle.std.proofs.lemmas.Bool.Decides.{nat_tests}
 use Rattle.std.proofs.lemmas.List.{map-append}
 use Rattle.std.proofs.lemmas.List.Sums.{prefix_len-le-length}
@@ -15,13 +15,22 @@ use Rattle.elaborate.specs.Registers.{with_ranges, AreRegisters}
 use Rattle.elaborate.specs.FirstFindings.{found_name}
 use Rattle.indexmap.specs.IndexSet.{insert_key}
 
-module _ {K : Type 0} (bytes : K → Text) where
-  pub same_length : (ks : List K) (rs : List (Option (ℕ × ℕ))) → length (map bytes ks) ≡ length rs → length (with_ranges (map bytes ks) rs) ≡ length rs
-  same_length [] [] e = refl
-  same_length [] (r ∷ rs) e = omega arith
-  same_length (k ∷ ks) [] e = omega arith
-  same_length (k ∷ ks) (r ∷ rs) e = ap suc (same_length ks rs (omega arith))
+-- there are as many registers as ranges
+pub same_length : (ns : List Text) (rs : List (Option (ℕ × ℕ))) → length ns ≡ length rs → length (with_ranges ns rs) ≡ length rs
+same_length [] [] e = refl
+same_length [] (r ∷ rs) e = omega arith
+same_length (n ∷ ns) [] e = omega arith
+same_length (n ∷ ns) (r ∷ rs) e = ap suc (same_length ns rs (omega arith))
 
+-- one more name and its range
+pub one_more : (ns : List Text) (name : Text) (rs : List (Option (ℕ × ℕ))) (r : Option (ℕ × ℕ)) → length ns ≡ length rs
+    → with_ranges (ns ++ name ∷ []) (rs ++ r ∷ []) ≡ with_ranges ns rs ++ (name, r) ∷ []
+one_more [] name [] r e = refl
+one_more [] name (x ∷ rs) r e = absurd (omega arith)
+one_more (n ∷ ns) name [] r e = absurd (omega arith)
+one_more (n ∷ ns) name (x ∷ rs) r e = ap (λ t. (n, x) ∷ t) (one_more ns name rs r (omega arith))
+
+module _ {K : Type 0} (bytes : K → Text) where
   -- a name is declared where the set has it
   pub declared_is : (name : Text) (ks : List K) (rs : List (Option (ℕ × ℕ))) → length (map bytes ks) ≡ length rs
       → is_declared (with_ranges (map bytes ks) rs) name ≡ list_any (λ k. bytes_eq name (bytes k)) ks
@@ -56,14 +65,6 @@ module _ {K : Type 0} (bytes : K → Text) where
   names_are [] (r ∷ rs) e = refl
   names_are (k ∷ ks) [] e = absurd (omega arith)
   names_are (k ∷ ks) (r ∷ rs) e = ap (λ t. bytes k ∷ t) (names_are ks rs (omega arith))
-
-  -- one more name and its range
-  pub one_more : (ks : List K) (k : K) (rs : List (Option (ℕ × ℕ))) (r : Option (ℕ × ℕ)) → length (map bytes ks) ≡ length rs
-      → with_ranges (map bytes (ks ++ k ∷ [])) (rs ++ r ∷ []) ≡ with_ranges (map bytes ks) rs ++ (bytes k, r) ∷ []
-  one_more [] k [] r e = refl
-  one_more [] k (x ∷ rs) r e = absurd (omega arith)
-  one_more (y ∷ ks) k [] r e = absurd (omega arith)
-  one_more (y ∷ ks) k (x ∷ rs) r e = ap (λ t. (bytes y, x) ∷ t) (one_more ks k rs r (omega arith))
 
 -- the range of a name is that at its number
 pub range_is : (ds : List Declared) (name : Text) → range_of ds name ≡ get_or (map (λ d. d.1) ds) (number_of ds name) None
@@ -106,28 +107,38 @@ allowed limits ds name r = by (is_declared ds name) (is_range r) (nat_le (most_r
     by false true false p q s h = (p, q, grind (arith, nat_tests))
 
 module _ {K : Type 0} (bytes : K → Text) where
+  -- a name that may be declared isn't in the set
+  pub is_new : (limits : ModuleLimits) (name : Text) (r : Option (ℕ × ℕ)) (ks : List K) (rs : List (Option (ℕ × ℕ))) → length (map bytes ks) ≡ length rs
+      → found_name limits (with_ranges (map bytes ks) rs) (name, r) ≡ None → list_any (λ k. bytes_eq name (bytes k)) ks ≡ false
+  is_new limits name r ks rs e h = sym (declared_is bytes name ks rs e) ∙ (allowed limits _ name r h).0
+
   -- a new name goes last
-  pub inserted : (limits : ModuleLimits) (s : K) (r : Option (ℕ × ℕ)) (ks : List K) (rs : List (Option (ℕ × ℕ))) → length (map bytes ks) ≡ length rs
-      → found_name limits (with_ranges (map bytes ks) rs) (bytes s, r) ≡ None → insert_key (λ x y. bytes_eq (bytes x) (bytes y)) ks s ≡ ks ++ s ∷ []
-  inserted limits s r ks rs e h = rw (sym (declared_is bytes (bytes s) ks rs e) ∙ (allowed limits _ (bytes s) r h).0)
+  pub inserted : (s : K) (name : Text) (ks keys : List K) → bytes s ≡ name → list_any (λ k. bytes_eq name (bytes k)) ks ≡ false
+      → keys ≡ insert_key (λ x y. bytes_eq (bytes x) (bytes y)) ks s → map bytes keys ≡ map bytes ks ++ name ∷ []
+  inserted s name ks keys e h k =
+      ap (map bytes) (k ∙ last (subst (λ t. list_any (λ k. bytes_eq t (bytes k)) ks ≡ false) (sym e) h)) ∙ map-append bytes ks (s ∷ []) ∙ ap (λ t. map bytes ks ++ t ∷ []) e
+    where
+      last : list_any (λ k. bytes_eq (bytes s) (bytes k)) ks ≡ false → insert_key (λ x y. bytes_eq (bytes x) (bytes y)) ks s ≡ ks ++ s ∷ []
+      last q = rw q
 
-  ranged_more : (rs : List (Option (ℕ × ℕ))) (r : Option (ℕ × ℕ)) → ((k : ℕ) → is_range (get_or rs k None) ≡ true) → is_range r ≡ true
-      → (k : ℕ) → is_range (get_or (rs ++ r ∷ []) k None) ≡ true
-  ranged_more [] r h q zero = q
-  ranged_more [] r h q (suc k) = refl
-  ranged_more (x ∷ rs) r h q zero = h 0
-  ranged_more (x ∷ rs) r h q (suc k) = ranged_more rs r (λ j. h (suc j)) q k
+ranged_more : (rs : List (Option (ℕ × ℕ))) (r : Option (ℕ × ℕ)) → ((k : ℕ) → is_range (get_or rs k None) ≡ true) → is_range r ≡ true
+    → (k : ℕ) → is_range (get_or (rs ++ r ∷ []) k None) ≡ true
+ranged_more [] r h q zero = q
+ranged_more [] r h q (suc k) = refl
+ranged_more (x ∷ rs) r h q zero = h 0
+ranged_more (x ∷ rs) r h q (suc k) = ranged_more rs r (λ j. h (suc j)) q k
 
-  pub registers_more : (limits : ModuleLimits) (s : K) (r : Option (ℕ × ℕ)) (ks : List K) (rs : List (Option (ℕ × ℕ))) → AreRegisters (map bytes ks) rs
-      → found_name limits (with_ranges (map bytes ks) rs) (bytes s, r) ≡ None → AreRegisters (map bytes (ks ++ s ∷ [])) (rs ++ r ∷ [])
-  registers_more limits s r ks rs a h =
-      let b = allowed limits _ (bytes s) r h in
-      let e = same_length bytes ks rs a.paired in
-      record {
-        paired = simp (map-append, length-append) (omega (arith, a.paired));
-        few = simp length-append (omega (arith, b.2, e, most_within limits));
-        ranged = ranged_more rs r a.ranged b.1;
-      }
+-- and what holds of the registers holds with one more that may be declared
+pub registers_more : (limits : ModuleLimits) (name : Text) (r : Option (ℕ × ℕ)) (ns : List Text) (rs : List (Option (ℕ × ℕ))) → AreRegisters ns rs
+    → found_name limits (with_ranges ns rs) (name, r) ≡ None → AreRegisters (ns ++ name ∷ []) (rs ++ r ∷ [])
+registers_more limits name r ns rs a h =
+    let b = allowed limits _ name r h in
+    let e = same_length ns rs a.paired in
+    record {
+      paired = simp length-append (omega (arith, a.paired));
+      few = simp length-append (omega (arith, b.2, e, most_within limits));
+      ranged = ranged_more rs r a.ranged b.1;
+    }
 
 module _ {K : Type 0} (bytes : K → Text) where
   -- the widths are those of the ranges

@@ -1,5 +1,5 @@
 -- The sizes of concatenations, and the numbers of arguments.
-use Rattle.std.proofs.Common.{◌≡◌, ℕ, ◌+◌, nat_lt, List, [], ◌∷◌, map, length, refl, arith}
+use Rattle.std.proofs.Common.{◌≡◌, ℕ, ◌+◌, ◌≤◌, nat_lt, List, [], ◌∷◌, map, length, refl, arith}
 use Rattle.std.proofs.lemmas.Bool.Decides.{nat_tests}
 use Rattle.logic4.specs.Vector.{greatest_width}
 use Rattle.model.specs.declared.tree.SourceExpression as program
@@ -22,3 +22,10 @@ sum_is m n = grind (arith, nat_tests)
 
 pub wide_sum : (m n : ℕ) → nat_lt greatest_width (capped m + capped n) ≡ nat_lt greatest_width (m + n)
 wide_sum m n = grind (arith, nat_tests)
+
+-- one size more
+pub more_size : (m n rest : ℕ) → capped (m + (n + rest)) ≡ capped (capped (m + capped n) + rest)
+more_size m n rest = grind (arith, nat_tests)
+
+pub capped_small : (n : ℕ) → capped n ≤ greatest_width + 1
+capped_small n = grind (arith, nat_tests)

@@ -2,8 +2,9 @@
 use Rattle.std.proofs.Common.{◌≡◌, ℕ, suc, ◌+◌, ◌<◌, ◌≤◌, List, [], ◌∷◌, ◌++◌, map, length, get_or, drop, sym, ap, subst, ◌∙◌, add-one, append-nil, append_assoc, Option, Some, None, string_bytes, drop-cons, refl, arith}
 use Rattle.std.specs.declared.vec.IntoIter.{IntoIter}
 use Rattle.std.specs.Vec.Iter.{into_iter_items, into_iter_len}
-use Rattle.std.proofs.lemmas.List.{drop_all}
+use Rattle.std.proofs.lemmas.List.{drop_all, map-append}
 use Rattle.model.specs.Design.{Statements}
+use Rattle.model.specs.Syntax.{Text}
 use Rattle.model.specs.declared.limits.ModuleLimits.{ModuleLimits}
 use Rattle.model.specs.Elaboration as model
 use Rattle.model.specs.Elaboration.{Declared, Fault, all_resolved, block_of, followed_by, resolved}
@@ -16,14 +17,32 @@ use Rattle.design.specs.declared.tree.Expression as made
 use Rattle.design.specs.DesignTrees as tree
 use Rattle.elaborate.specs.declared.fault.ElabFault.{ElabFault}
 use Rattle.elaborate.specs.Registers.{all_declared, of_range}
-use Rattle.elaborate.specs.FirstFindings.{or_fault, found_names, IsFirstOf}
+use Rattle.elaborate.specs.FirstFindings.{or_fault, found_name, found_names, IsFirstOf}
 use Rattle.elaborate.specs.Small.{AreSmallStatements}
 use Rattle.elaborate.proofs.Found.{found_names_append}
 use Rattle.elaborate.proofs.Bodies.{followed_by_assoc, followed_by_end, resolved_are}
 
 -- the element at a place, and those behind it
-next_of : {A : Type 0} (xs : List A) (i : ℕ) (x : A) → i < length xs → x ≡ get_or xs i x → drop i xs ≡ x ∷ drop (i + 1) xs
+pub next_of : {A : Type 0} (xs : List A) (i : ℕ) (x : A) → i < length xs → x ≡ get_or xs i x → drop i xs ≡ x ∷ drop (i + 1) xs
 next_of xs i x h e = rw add-one (drop-cons xs i x h ∙ ap (λ y. y ∷ drop (suc i) xs) (sym e))
+
+-- one more element is made
+pub pushed : {A B : Type 0} (f : A → B) (made next : List A) (x : A) (y : B) → next ≡ made ++ x ∷ [] → f x ≡ y → map f next ≡ map f made ++ y ∷ []
+pushed f made next x y n e = ap (map f) n ∙ map-append f made (x ∷ []) ∙ ap (λ z. map f made ++ z ∷ []) e
+
+-- what is made of the first of those that are left is behind what was made, and the others are left
+pub one_made : {A B : Type 0} (f : A → B) (made next : List B) (x : A) (left rest : List A) → left ≡ x ∷ rest → next ≡ made ++ f x ∷ []
+    → next ++ map f rest ≡ made ++ map f left
+one_made f made next x left rest e n =
+    ap (λ ys. ys ++ map f rest) n ∙ append_assoc made (f x ∷ []) (map f rest) ∙ ap (λ xs. made ++ map f xs) (sym e)
+
+-- where none is left, all are made
+pub all_made : {A B : Type 0} (f : A → B) (made whole : List B) (left : List A) → left ≡ [] → made ++ map f left ≡ whole → made ≡ whole
+all_made f made whole left e inv = sym (append-nil made) ∙ ap (λ xs. made ++ map f xs) (sym e) ∙ inv
+
+-- the same with the default that reading there has
+pub next_at : {A : Type 0} (xs : List A) (i : ℕ) (d : A) → i < length xs → drop i xs ≡ get_or xs i d ∷ drop (i + 1) xs
+next_at xs i d h = rw add-one (drop-cons xs i d h)
 
 module _ (ds : List Declared) (whole into : Statements) where
   -- one statement of those that are left, and the others
@@ -101,3 +120,26 @@ module _ (limits : ModuleLimits) (names : List Declared) (ds : List declaration.
 
   pub fault_in : (f : ElabFault) → IsFirstOf f (found_names limits names (of_range d.range (map string_bytes d.names.items))) → IsFirstOf f (found_names limits names (all_declared (map declaration_of (drop i ds))))
   fault_in f is = subst (IsFirstOf f) (sym (ap (found_names limits names) split_declared ∙ found_names_append limits names mine behind)) (first_part f (found_names limits names mine) (found_names limits (names ++ mine) behind) is)
+
+-- one name of a declaration
+module _ {K : Type 0} (bytes : K → Text) (limits : ModuleLimits) (range : Option (ℕ × ℕ)) (names : List Declared) (more : List K) (i : ℕ) (name : K) (h : i < length more) (e : name ≡ get_or more i name) where
+  abbrev others : List Declared
+  others = of_range range (map bytes (drop (i + 1) more))
+
+  split_names : of_range range (map bytes (drop i more)) ≡ (bytes name, range) ∷ of_range range (map bytes (drop (i + 1) more))
+  split_names = ap (λ xs. of_range range (map bytes xs)) (next_of more i name h e)
+
+  pub one_name : (next : List Declared) → next ≡ names ++ (bytes name, range) ∷ []
+      → next ++ of_range range (map bytes (drop (i + 1) more)) ≡ names ++ of_range range (map bytes (drop i more))
+  one_name next n = ap (λ xs. xs ++ others) n ∙ append_assoc names ((bytes name, range) ∷ []) others ∙ ap (λ xs. names ++ xs) (sym split_names)
+
+  pub found_after : (next : List Declared) → next ≡ names ++ (bytes name, range) ∷ [] → found_name limits names (bytes name, range) ≡ None
+      → found_names limits names (of_range range (map bytes (drop i more))) ≡ found_names limits next (of_range range (map bytes (drop (i + 1) more)))
+  found_after next n none =
+      ap (found_names limits names) split_names ∙ ap (λ o. or_fault o (found_names limits (names ++ (bytes name, range) ∷ []) others)) none
+      ∙ ap (λ xs. found_names limits xs others) (sym n)
+
+  pub fault_at : (f : ElabFault) → IsFirstOf f (found_name limits names (bytes name, range)) → IsFirstOf f (found_names limits names (of_range range (map bytes (drop i more))))
+  fault_at f is =
+      subst (IsFirstOf f) (sym (ap (found_names limits names) split_names))
+      (first_part f (found_name limits names (bytes name, range)) (found_names limits (names ++ (bytes name, range) ∷ []) others) is)

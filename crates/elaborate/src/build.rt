@@ -9,9 +9,7 @@ ghost use Rattle.elaborate.specs.Small.{IsShortDelay};
 
 use design::tree::{Expression, Piece, Statement};
 use design::{RegId, Trigger};
-use logic4::digit::Extension;
-use logic4::size::Size;
-use model::tree::{BinaryOperator, Task, UnaryOperator};
+use model::tree::Task;
 use std::alloc::{AllocError, Global};
 
 /// What a builder gives, unless memory is refused.
@@ -25,45 +23,6 @@ pub fn concat_of(first: Expression, others: Vec<Expression>) -> Built<Expression
     let mut parts = others;
     parts.insert(0, first)?;
     Ok(Expression::Concat(parts))
-}
-
-/// One of two expressions, by a test.
-pub fn conditional_of(
-    alloc: Global,
-    test: Expression,
-    first: Expression,
-    second: Expression,
-) -> Built<Expression>
-    ensures { IfOk result (λ made. expression_of made ≡ syntax.Conditional (expression_of test) (expression_of first) (expression_of second)) }
-{
-    Ok(Expression::Conditional(
-        Box::new(alloc, test)?,
-        Box::new(alloc, first)?,
-        Box::new(alloc, second)?,
-    ))
-}
-
-pub fn binary_of(
-    alloc: Global,
-    op: BinaryOperator,
-    left: Expression,
-    right: Expression,
-) -> Built<Expression>
-    ensures { IfOk result (λ made. expression_of made ≡ syntax.Binary op (expression_of left) (expression_of right)) }
-{
-    Ok(Expression::Binary(op, Box::new(alloc, left)?, Box::new(alloc, right)?))
-}
-
-pub fn unary_of(alloc: Global, op: UnaryOperator, e: Expression) -> Built<Expression>
-    ensures { IfOk result (λ made. expression_of made ≡ syntax.Unary op (expression_of e)) }
-{
-    Ok(Expression::Unary(op, Box::new(alloc, e)?))
-}
-
-pub fn extend_of(alloc: Global, by: Extension, size: Size, e: Expression) -> Built<Expression>
-    ensures { IfOk result (λ made. expression_of made ≡ syntax.Extend by size (expression_of e)) }
-{
-    Ok(Expression::Extend(by, size, Box::new(alloc, e)?))
 }
 
 /// A blocking assignment, with the delay inside it where there is one.

@@ -9,7 +9,7 @@ ghost use Rattle.model.specs.SourceTrees.{piece_of, source_expression_of, source
 ghost use Rattle.elaborate.specs.Formed.{IsFormed, AreFormed, IsFormedStatement, AreFormedStatements, AreFormedProcesses};
 ghost use Rattle.elaborate.specs.FirstFindings.{first_finding, or_fault, capped, found_where, found, all_found, found_delay, found_format, found_pieces, found_in, all_found_in, found_by};
 
-use crate::finding::Finding;
+use crate::finding::{Finding, first};
 use crate::format;
 use crate::names::RegisterNames;
 use design::{Sizing, sizing_of};
@@ -42,41 +42,41 @@ pub fn processes<'a>(
     Ok(())
 }
 
-// Refuses the first thing that is wrong with a statement and those inside it.
+// Refuses the first thing that is wrong with a statement and those inside it. As among names, all parts of it are looked at.
 #[cycle(found_in)]
 fn statement<'a>(names: &RegisterNames, s: &'a SourceStatement) -> Result<(), Finding<'a>>
     ensures found { first_finding result ≡ found_in names.now (source_statement_of s.now) }
-    ensures formed { OnOk result (IsFormedStatement (source_statement_of s.now)) }
+    ensures formed { IsFormedStatement (source_statement_of s.now) }
 {
     match s {
         SourceStatement::Empty | SourceStatement::Now(_) | SourceStatement::Finish => Ok(()),
         SourceStatement::Block(body) => block(names, body.as_slice()),
         SourceStatement::Assign(_, wait, e) | SourceStatement::AssignLater(_, wait, e) => {
-            delay(*wait)?;
-            expression(names, e).first_finding
+            first(delay(*wait), expression(names, e).first_finding)
         }
-        SourceStatement::Delay(wait, s) => {
-            delay(Some(*wait))?;
-            statement(names, s)
-        }
+        SourceStatement::Delay(wait, s) => first(delay(Some(*wait)), statement(names, s)),
         SourceStatement::Await(_, s) => statement(names, s),
         SourceStatement::If(c, body) | SourceStatement::While(c, body) => {
-            expression(names, c).first_finding?;
-            block(names, body.as_slice())
+            first(
+                expression(names, c).first_finding,
+                block(names, body.as_slice()),
+            )
         }
         SourceStatement::IfElse(c, body, otherwise) => {
-            expression(names, c).first_finding?;
-            block(names, body.as_slice())?;
-            block(names, otherwise.as_slice())
+            let inside = first(
+                block(names, body.as_slice()),
+                block(names, otherwise.as_slice()),
+            );
+            first(expression(names, c).first_finding, inside)
         }
-        SourceStatement::Print(_, format, arguments) => {
-            line(format.as_slice(), arguments.as_slice())?;
-            expressions(names, arguments.as_slice()).first_finding
-        }
-        SourceStatement::PrintPieces(_, pieces, arguments) => {
-            line_of(pieces.as_slice(), arguments.as_slice())?;
-            expressions(names, arguments.as_slice()).first_finding
-        }
+        SourceStatement::Print(_, format, arguments) => first(
+            line(format.as_slice(), arguments.as_slice()),
+            expressions(names, arguments.as_slice()).first_finding,
+        ),
+        SourceStatement::PrintPieces(_, pieces, arguments) => first(
+            line_of(pieces.as_slice(), arguments.as_slice()),
+            expressions(names, arguments.as_slice()).first_finding,
+        ),
     }
 }
 
@@ -84,12 +84,13 @@ fn statement<'a>(names: &RegisterNames, s: &'a SourceStatement) -> Result<(), Fi
 #[cycle(found_in)]
 fn block<'a>(names: &RegisterNames, body: &'a [SourceStatement]) -> Result<(), Finding<'a>>
     ensures found { first_finding result ≡ all_found_in names.now (source_statements (map source_statement_of body.now)) }
-    ensures formed { OnOk result (AreFormedStatements (source_statements (map source_statement_of body.now))) }
+    ensures formed { AreFormedStatements (source_statements (map source_statement_of body.now)) }
 {
+    let mut found = Ok(());
     for s in body {
-        statement(names, s)?;
+        found = first(found, statement(names, s));
     }
-    Ok(())
+    found
 }
 
 // Refuses a delay that is too long, where there is one.
@@ -306,17 +307,6 @@ fn joined<'a>(size: u32) -> Result<(), Finding<'a>>
     } else {
         Ok(())
     }
-}
-
-// The first of two findings.
-fn first<'a>(
-    one: Result<(), Finding<'a>>,
-    other: Result<(), Finding<'a>>,
-) -> Result<(), Finding<'a>>
-    ensures { first_finding result ≡ or_fault (first_finding one.entry) (first_finding other.entry) }
-{
-    one?;
-    other
 }
 
 fn cap(size: u32) -> u32

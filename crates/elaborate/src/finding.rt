@@ -1,6 +1,6 @@
 //! What a walk over the tree finds first, with the name as it stands in the tree.
 ghost use Rattle.std.specs.Prelude.{◌≡◌, Ok, Some, IfOk};
-ghost use Rattle.elaborate.specs.FirstFindings.{IsModuleFaultOf, plain, told_of};
+ghost use Rattle.elaborate.specs.FirstFindings.{first_finding, or_fault, IsModuleFaultOf, plain, told_of};
 ghost use Rattle.elaborate.specs.declared.fault.ElabFault.{ElabFault};
 
 use crate::fault::ElabFault;
@@ -51,5 +51,18 @@ impl Finding<'_> {
             Finding::BadIndex(name) => ElabFault::BadIndex(String::from_str(alloc, name)?),
             Finding::LongDelay => ElabFault::LongDelay,
         })
+    }
+}
+
+/// The first of two findings.
+pub fn first<'a>(
+    one: Result<(), Finding<'a>>,
+    other: Result<(), Finding<'a>>,
+) -> Result<(), Finding<'a>>
+    ensures { first_finding result ≡ or_fault (first_finding one.entry) (first_finding other.entry) }
+{
+    match one {
+        Ok(()) => other,
+        Err(found) => Err(found),
     }
 }

@@ -1,5 +1,7 @@
 //! The declared registers, by number and by name.
-ghost use Rattle.std.specs.Prelude.{◌≡◌, ℕ, ◌++◌, ◌<◌, ◌≤◌, [], ◌∷◌, None, true, false, map, length, slice_index, slice_index_or, IfOk, IfErr, OnOk};
+ghost use Rattle.std.specs.Prelude.{◌≡◌, ℕ, ◌++◌, ◌<◌, ◌≤◌, [], ◌∷◌, None, true, false, map, length, slice_index, slice_index_or, string_bytes, IfOk, IfErr, OnOk};
+ghost use Rattle.std.specs.List.{list_any};
+ghost use Rattle.std.specs.Str.{bytes_eq};
 ghost use Rattle.logic4.specs.Vector.{greatest_width};
 ghost use Rattle.model.specs.Elaboration.{is_declared, is_range, number_of, range_of, width_of, widths_of};
 ghost use Rattle.model.specs.declared.limits.ModuleLimits.TheVariants.{Whole};
@@ -106,8 +108,7 @@ impl RegisterNames {
             mut names,
             mut ranges,
         } = self;
-        names.insert(String::from_str(alloc, name)?)?;
-        ranges.push(range)?;
+        add(alloc, &mut names, &mut ranges, name, range)?;
         Ok(RegisterNames { names, ranges })
     }
 
@@ -188,6 +189,23 @@ impl RegisterNames {
         let widths = widths(alloc, ranges.as_slice())?;
         Design::new(alloc, names, widths, processes)
     }
+}
+
+// One name more, which isn't among these, and its range. Fails where memory is refused.
+fn add(
+    alloc: Global,
+    names: &mut IndexSet<String>,
+    ranges: &mut Vec<Range>,
+    name: &str,
+    range: Range,
+) -> Result<(), AllocError>
+    requires { list_any (λ k. bytes_eq name.now (string_bytes k)) names.old.keys ≡ false }
+    ensures names { OnOk result (map string_bytes names.new.keys ≡ map string_bytes names.old.keys ++ name.now ∷ []) }
+    ensures ranges { OnOk result (ranges.new.items ≡ ranges.old.items ++ range ∷ []) }
+{
+    names.insert(String::from_str(alloc, name)?)?;
+    ranges.push(range)?;
+    Ok(())
 }
 
 fn range_in(ranges: &[Range], place: usize) -> Range

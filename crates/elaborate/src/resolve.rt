@@ -87,7 +87,11 @@ fn block_given_up(alloc: Global, names: &RegisterNames, s: SourceStatement) -> B
 {
     match s {
         SourceStatement::Block(body) => each_given_up(alloc, names, body),
-        s => alone(alloc, names, &s),
+        s => {
+            let made = alone(alloc, names, &s);
+            give_up(s);
+            made
+        }
     }
 }
 
@@ -116,8 +120,13 @@ fn one_given_up(
     requires { IsSmallStatement (source_statement_of s) }
     ensures { OnOk result (tree.statements_of into.new.items ≡ followed_by (tree.statements_of into.old.items) (model.statements_of names.now (source_statement_of s))) }
 {
-    statement(alloc, names, &s, into)
+    let made = statement(alloc, names, &s, into);
+    give_up(s);
+    made
 }
+
+// Gives a value up. It is of any type, since the prover goes through all that a statement may be wherever one is dropped in sight.
+fn give_up<T: Drop>(_: T) {}
 
 // How many statements one makes, unless it is a block with others inside it: the room of their list.
 fn count_of(s: &SourceStatement) -> usize {
@@ -415,31 +424,41 @@ fn expression(alloc: Global, names: &RegisterNames, e: &SourceExpression) -> Bui
         )),
         SourceExpression::Literal(bits) => Ok(Expression::Literal(*bits)),
         SourceExpression::Concat(part, others) => {
-            let first = expression(alloc, names, part)?;
             let room = others.len().saturating_add(1);
             let others = expressions(alloc, names, others.as_slice(), room)?;
+            let first = expression(alloc, names, part)?;
             build::concat_of(first, others)
         }
         SourceExpression::Unary(op, e) => {
-            let operand = expression(alloc, names, e)?;
-            build::unary_of(alloc, *op, operand)
+            let operand = boxed(alloc, names, e)?;
+            Ok(Expression::Unary(*op, operand))
         }
         SourceExpression::Binary(op, e, f) => {
-            let left = expression(alloc, names, e)?;
-            let right = expression(alloc, names, f)?;
-            build::binary_of(alloc, *op, left, right)
+            let left = boxed(alloc, names, e)?;
+            let right = boxed(alloc, names, f)?;
+            Ok(Expression::Binary(*op, left, right))
         }
         SourceExpression::Conditional(c, e, f) => {
-            let test = expression(alloc, names, c)?;
-            let first = expression(alloc, names, e)?;
-            let second = expression(alloc, names, f)?;
-            build::conditional_of(alloc, test, first, second)
+            let test = boxed(alloc, names, c)?;
+            let first = boxed(alloc, names, e)?;
+            let second = boxed(alloc, names, f)?;
+            Ok(Expression::Conditional(test, first, second))
         }
         SourceExpression::Extend(by, size, e) => {
-            let operand = expression(alloc, names, e)?;
-            build::extend_of(alloc, *by, *size, operand)
+            let operand = boxed(alloc, names, e)?;
+            Ok(Expression::Extend(*by, *size, operand))
         }
     }
+}
+
+// An expression in a box, over the numbers of registers.
+#[cycle(resolved)]
+fn boxed(alloc: Global, names: &RegisterNames, e: &SourceExpression) -> Built<Box<Expression>>
+    requires { IsSmall (source_expression_of e.now) }
+    ensures { IfOk result (λ made. tree.expression_of made.value ≡ resolved names.now (source_expression_of e.now)) }
+{
+    let made = expression(alloc, names, e)?;
+    Ok(Box::new(alloc, made)?)
 }
 
 // Expressions over the numbers of registers, from some over their names, in a list with so much room.

@@ -3,7 +3,7 @@ ghost use Rattle.std.specs.Prelude.{◌≡◌, map};
 ghost use Rattle.model.specs.SourceTrees.{source_expression_of, source_expressions, source_statement_of, source_statements, source_trigger_of, source_process_of};
 ghost use Rattle.elaborate.specs.FirstFindings.{first_finding, used, all_used, unknown_among, used_in, all_used_in, used_by};
 
-use crate::finding::Finding;
+use crate::finding::{Finding, first};
 use crate::names::RegisterNames;
 use model::tree::{EventExpression, SourceExpression, SourceProcess, SourceStatement};
 
@@ -20,7 +20,8 @@ pub fn processes<'a>(
     Ok(())
 }
 
-// Refuses the first name in a statement and in those inside it that isn't declared.
+// Refuses the first name in a statement and in those inside it that isn't declared. All parts of it are looked at, and the first
+// finding is told: a way out behind each part would be dear to prove.
 #[cycle(used_in)]
 fn statement<'a>(names: &RegisterNames, s: &'a SourceStatement) -> Result<(), Finding<'a>>
     ensures { first_finding result ≡ used_in names.now (source_statement_of s.now) }
@@ -28,24 +29,26 @@ fn statement<'a>(names: &RegisterNames, s: &'a SourceStatement) -> Result<(), Fi
     match s {
         SourceStatement::Empty | SourceStatement::Finish => Ok(()),
         SourceStatement::Block(body) => block(names, body.as_slice()),
-        SourceStatement::Assign(name, _, e) | SourceStatement::AssignLater(name, _, e) => {
-            names.known(name.as_str())?;
-            expression(names, e)
-        }
+        SourceStatement::Assign(name, _, e) | SourceStatement::AssignLater(name, _, e) => first(
+            names.known(name.as_str()),
+            expression(names, e),
+        ),
         SourceStatement::Now(name) => names.known(name.as_str()),
         SourceStatement::Delay(_, s) => statement(names, s),
-        SourceStatement::Await(triggers, s) => {
-            events(names, triggers.as_slice())?;
-            statement(names, s)
-        }
-        SourceStatement::If(c, body) | SourceStatement::While(c, body) => {
-            expression(names, c)?;
-            block(names, body.as_slice())
-        }
+        SourceStatement::Await(triggers, s) => first(
+            events(names, triggers.as_slice()),
+            statement(names, s),
+        ),
+        SourceStatement::If(c, body) | SourceStatement::While(c, body) => first(
+            expression(names, c),
+            block(names, body.as_slice()),
+        ),
         SourceStatement::IfElse(c, body, otherwise) => {
-            expression(names, c)?;
-            block(names, body.as_slice())?;
-            block(names, otherwise.as_slice())
+            let inside = first(
+                block(names, body.as_slice()),
+                block(names, otherwise.as_slice()),
+            );
+            first(expression(names, c), inside)
         }
         SourceStatement::Print(_, _, arguments) => expressions(names, arguments.as_slice()),
         SourceStatement::PrintPieces(_, _, arguments) => expressions(names, arguments.as_slice()),
@@ -84,19 +87,15 @@ fn expression<'a>(names: &RegisterNames, e: &'a SourceExpression) -> Result<(), 
             name.as_str(),
         ),
         SourceExpression::Literal(_) => Ok(()),
-        SourceExpression::Concat(part, others) => {
-            expression(names, part)?;
-            expressions(names, others.as_slice())
-        }
+        SourceExpression::Concat(part, others) => first(
+            expression(names, part),
+            expressions(names, others.as_slice()),
+        ),
         SourceExpression::Unary(_, e) | SourceExpression::Extend(_, _, e) => expression(names, e),
-        SourceExpression::Binary(_, e, f) => {
-            expression(names, e)?;
-            expression(names, f)
-        }
+        SourceExpression::Binary(_, e, f) => first(expression(names, e), expression(names, f)),
         SourceExpression::Conditional(c, e, f) => {
-            expression(names, c)?;
-            expression(names, e)?;
-            expression(names, f)
+            let chosen = first(expression(names, e), expression(names, f));
+            first(expression(names, c), chosen)
         }
     }
 }

@@ -95,28 +95,38 @@ fn update_of(machine: &Machine<'_>, entry: Entry, register: RegId) -> Option<u64
 // The most updates of a register at one time that are looked at.
 const MOST_UPDATES: usize = 8;
 
-// The events of the first updates of a register at a race's time, which a machine takes along its journal.
-fn updates_along(
+// Keeps the event of the update of a register that an entry takes, if it takes one. Fails where memory is refused.
+fn keep_update(
+    machine: &Machine<'_>,
+    entry: Entry,
+    register: RegId,
+    updates: &mut Vec<u64>,
+) -> Result<(), AllocError> {
+    if let Some(update) = update_of(machine, entry, register) {
+        updates.push(update)?;
+    }
+    Ok(())
+}
+
+// Keeps the events of the first updates of a register at a race's time, which a machine takes along its journal. Fails where memory is refused.
+fn keep_updates(
     machine: &mut Machine<'_>,
     search: StatementSearch<'_>,
     register: RegId,
-) -> Result<Vec<u64>, AllocError> {
-    let mut updates = Vec::new(search.alloc);
+    updates: &mut Vec<u64>,
+) -> Result<(), AllocError> {
     for entry in search.journal {
         if machine.time() > search.time || updates.len() >= MOST_UPDATES {
-            return Ok(updates);
+            return Ok(());
         }
         if machine.time() == search.time {
-            match update_of(machine, *entry, register) {
-                Some(update) => updates.push(update)?,
-                None => {}
-            }
+            keep_update(machine, *entry, register, updates)?;
         }
         if machine.take(*entry).is_err() {
-            return Ok(updates);
+            return Ok(());
         }
     }
-    Ok(updates)
+    Ok(())
 }
 
 /// The events of the first updates of a register at a race's time in its journal. Fails where memory is refused.
@@ -125,9 +135,11 @@ pub(crate) fn updates_at(
     register: RegId,
 ) -> Result<Vec<u64>, AllocError> {
     let mut machine = Machine::start(search.alloc, search.design)?;
-    let updates = updates_along(&mut machine, search, register);
+    let mut updates = Vec::new(search.alloc);
+    let kept = keep_updates(&mut machine, search, register, &mut updates);
     drop(machine);
-    updates
+    kept?;
+    Ok(updates)
 }
 
 /// A machine that is led along a journal to the turns of a process that may have done what is looked for, and the marks of the nodes that did.
@@ -212,6 +224,18 @@ impl<'a> TurnFinder<'a> {
         }
         let mut values = Vec::new(self.search.alloc);
         values.extend_from_slice(self.machine.store().values())?;
+        self.take_evaluated(log, number, state, values.as_slice())
+    }
+
+    // Takes a turn of the process that was evaluated where the registers have these values, and marks the nodes by which it did what is looked
+    // for, if it did. The answer is whether that is known. Fails where memory is refused.
+    fn take_evaluated(
+        &mut self,
+        log: &TurnLog,
+        number: u64,
+        state: ProcState,
+        values: &[Bits],
+    ) -> Result<bool, AllocError> {
         let time = self.machine.time();
         let had = self.has_sought();
         if self.machine.take(Entry::Turn(number)).is_err() {
@@ -220,7 +244,7 @@ impl<'a> TurnFinder<'a> {
         if self.sought.update.is_some() && (had || !self.has_sought()) {
             return Ok(true);
         }
-        self.mark_taken(log, state, time, values.as_slice())
+        self.mark_taken(log, state, time, values)
     }
 
     // Takes an entry. The answer is whether it was taken, and what it did of what is looked for is known. Fails where memory is refused.

@@ -58,8 +58,29 @@ fn push_next(
     }
 }
 
+// Takes the entries before a place, from the start on, and then the one there, and puts its line behind a text.
+fn push_from_start(
+    text: &mut Vec<u8>,
+    names: &SourceNames<'_>,
+    explainer: &mut Explainer<'_>,
+    entries: &[Entry],
+    place: usize,
+) -> Result<(), ExplainFault>
+    requires inside { place < length entries.now }
+    requires start { IsBefore entries.now 0 explainer.old }
+    requires code { explainer.old.position.code ≡ names.now.design.now }
+    ensures put { OnOk result (PutsEntryLine names.entry.now entries.now place text.old.items text.new.items) }
+    ensures fault { IfErr result (IsFaultOfEntries explainer.old.position.code entries.now) }
+{
+    match explain_before(explainer, entries, place) {
+        Ok(()) => push_next(text, names, explainer, entries, place),
+        Err(fault) => Err(fault),
+    }
+}
+
 /// Puts the line of the entry at a place of a journal behind a text; the entries before it are taken first. Fails with the first
-/// entry up to it that isn't taken, or where memory is refused.
+/// entry up to it that isn't taken, or where memory is refused. It leaves by one way once it owns the explainer, since others make a
+/// long proof.
 pub fn push_entry_line(
     alloc: Global,
     text: &mut Vec<u8>,
@@ -75,8 +96,7 @@ pub fn push_entry_line(
         Ok(explainer) => explainer,
         Err(_) => return Err(ExplainFault::Memory),
     };
-    match explain_before(&mut explainer, entries, place) {
-        Ok(()) => push_next(text, names, &mut explainer, entries, place),
-        Err(fault) => Err(fault),
-    }
+    let put = push_from_start(text, names, &mut explainer, entries, place);
+    drop(explainer);
+    put
 }

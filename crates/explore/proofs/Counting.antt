@@ -1,5 +1,5 @@
 -- The runs that the number of nodes counts.
-use Rattle.std.proofs.Common.{◌≡◌, ℕ, ◌<◌, ◌++◌, List, [], length, get_or, Some, None, Option, refl, sym, subst, arith, inl, inr, Vec, Global}
+use Rattle.std.proofs.Common.{◌≡◌, ℕ, ◌<◌, ◌≤◌, ◌++◌, List, [], length, get_or, Some, None, Option, refl, sym, subst, arith, inl, inr, Vec, Global}
 use Rattle.std.specs.Prelude.{IfSome, IsErrAnd, Result, Ok, Err}
 use Rattle.std.specs.List.{All}
 use Rattle.std.proofs.lemmas.List.{get_or_default}
@@ -8,15 +8,16 @@ use Rattle.std.proofs.lemmas.Option.{slice_get-get_or}
 use Rattle.explore.specs.Visited.{visits}
 use Rattle.explore.specs.SearchKept.{AreKept, AreContinued}
 use Rattle.explore.specs.SearchedRuns.{Runs}
-use Rattle.explore.specs.Search.{Serves, IsShown, IsFollowed, AreCounted, IsEndless}
+use Rattle.explore.specs.Search.{AreCounted, AreShownWell, IsEndless, IsFollowed, IsShown, Serves}
 use Rattle.explore.specs.Lineage.{ways}
 use Rattle.explore.specs.Links.{IsNeverEnding}
+use Rattle.explore.specs.declared.Bounds.{Bounds}
 use Rattle.explore.specs.declared.Shown.{Shown}
-use Rattle.explore.specs.Outcome.{stopped_of}
+use Rattle.explore.specs.Outcome.{IsSearched}
 use Rattle.explore.specs.declared.kept.KeptNodes.{KeptNodes}
 use Rattle.explore.specs.declared.search.SearchOutcome.{SearchOutcome}
 use Rattle.explore.specs.declared.stopped.Stopped.{Stopped}
-use Rattle.explore.specs.declared.stopped.Stopped.TheVariants.{Memory}
+use Rattle.explore.specs.declared.stopped.Stopped.TheVariants as stop
 use Rattle.explore.proofs.Complete.{AreFollowed}
 use Rattle.explore.proofs.Continuing.{never_ends}
 
@@ -53,14 +54,14 @@ counted {M} {N} {E} runs HasKey kept shown stopped nodes known count some first 
     }
 
 -- no run is counted where memory was refused to the first
-pub none_counted : {M N E : Type 0} (runs : Runs M N E) (shown : List (Shown M E)) (nodes : ℕ) → nodes ≡ 0 → AreCounted runs shown (Some Memory) nodes
+pub none_counted : {M N E : Type 0} (runs : Runs M N E) (shown : List (Shown M E)) (nodes : ℕ) → nodes ≡ 0 → AreCounted runs shown (Some stop.Memory) nodes
 none_counted {M} {N} {E} runs shown nodes zeroth =
     record {
       reached = [];
       count = sym zeroth;
       stand = All-nil (λ (run : List M). (node : N) × runs.Stands node run);
       starts = inl refl;
-      followed = λ none. absurd (some_none Memory none);
+      followed = λ none. absurd (some_none stop.Memory none);
     }
 
 -- the run that was found comes to no end
@@ -78,7 +79,40 @@ pub endless_of : {M N E : Type 0} (runs : Runs M N E) (HasKey : N → List ℕ �
 endless_of runs HasKey kept None known continued found = tt
 endless_of runs HasKey kept (Some moves) known continued found = is_endless runs HasKey kept moves.items known continued found
 
+-- what holds of what is there holds where nothing is
+pub none_told : {X : Type 0} (P : X → Type 0) (o : Option X) → o ≡ None → IfSome o P
+none_told P None none = tt
+none_told P (Some x) none = absurd (some_none x none)
+
+-- the reasons why a search stops differ
+pub bytes_nodes : ◌≡◌ {A = Option Stopped} (Some stop.Bytes) (Some stop.Nodes) → ⊥
+bytes_nodes e = cc
+
+pub bytes_shown : ◌≡◌ {A = Option Stopped} (Some stop.Bytes) (Some stop.Shown) → ⊥
+bytes_shown e = cc
+
+pub shown_nodes : ◌≡◌ {A = Option Stopped} (Some stop.Shown) (Some stop.Nodes) → ⊥
+shown_nodes e = cc
+
+memory_nodes : ◌≡◌ {A = Option Stopped} (Some stop.Memory) (Some stop.Nodes) → ⊥
+memory_nodes e = cc
+
+memory_shown : ◌≡◌ {A = Option Stopped} (Some stop.Memory) (Some stop.Shown) → ⊥
+memory_shown e = cc
+
 -- where a search fails, a refusal of memory stopped it
-pub by_memory : {M F : Type 0} (r : Result (SearchOutcome M) F) (R : F → Type 0) → IsErrAnd r R → stopped_of r ≡ Some Memory
-by_memory (Ok outcome) R never = absurd never
-by_memory (Err fault) R is = refl
+pub searched_failed : {M N E F : Type 0} (runs : Runs M N E) (time_of : N → ℕ) (bounds : Bounds) (shown : List (Shown M E)) (nodes : ℕ) (r : Result (SearchOutcome M) F) (R : F → Type 0) → IsErrAnd r R → nodes ≤ bounds.nodes → AreShownWell runs bounds.shown shown →
+    AreCounted runs shown (Some stop.Memory) nodes → IsSearched runs time_of bounds shown nodes r
+searched_failed runs time_of bounds shown nodes (Ok outcome) R never few well counted = absurd never
+searched_failed runs time_of bounds shown nodes (Err fault) R is few well counted =
+    record {
+      few = few;
+      well = well;
+      all = λ none. absurd (some_none stop.Memory none);
+      most = λ at. absurd (memory_nodes at);
+      full = λ at. absurd (memory_shown at);
+      counted = counted;
+      before = inl refl;
+      endless = tt;
+      widest = tt;
+    }

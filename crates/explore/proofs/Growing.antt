@@ -1,10 +1,14 @@
 -- How lists grow from one another.
-use Rattle.std.proofs.Common.{◌≡◌, ℕ, zero, suc, ◌+◌, ◌<◌, ◌≤◌, List, [], ◌∷◌, ◌++◌, length, get_or, refl, sym, ap, ◌∙◌, append_assoc, arith, length-append, Some, None, Option, ◌⊎◌, inl, inr}
+use Rattle.std.proofs.Common.{◌≡◌, ℕ, zero, suc, ◌+◌, ◌-◌, ◌*◌, ◌<◌, ◌≤◌, List, [], ◌∷◌, ◌++◌, length, get_or, refl, sym, ap, ◌∙◌, append_assoc, arith, length-append, Some, None, Option, ◌⊎◌, inl, inr}
 use Rattle.std.proofs.lemmas.List.{append-nil, get_or_append_left}
 use Rattle.std.proofs.Math.Seq.{get_or-append_seam}
 use Rattle.std.specs.Prelude.{slice_get}
 use Rattle.sharing.specs.Parts.{Extends}
 use Rattle.explore.specs.Grown.{grown, grown_all}
+
+-- no number is less than itself
+pub not_less : (n : ℕ) → n < n → ⊥
+not_less n less = omega (arith, less)
 
 -- a list extends itself
 pub Extends-itself : {X : Type 0} (xs : List X) → Extends xs xs
@@ -89,3 +93,15 @@ before_added (y ∷ xs) added (suc k) x at = before_added xs added k x at
 -- what stands at a place stands there where more is added
 pub slice_get-extends : {X : Type 0} (xs ys : List X) (k : ℕ) (x : X) → Extends xs ys → slice_get xs k ≡ Some x → slice_get ys k ≡ Some x
 slice_get-extends {X} xs ys k x more at = ap (λ (l : List X). slice_get l k) more.1 ∙ before_added xs more.0 k x at
+
+-- where the last of what is pending is taken, and for each that is added there is one more of those of which there may be so many, less is left to do
+pub fewer_left : {X : Type 0} (most : ℕ) (pending popped : List X) (last : X) (old new left : ℕ) → pending ≡ popped ++ last ∷ [] → left + old ≡ length popped + new → new ≤ most → old ≤ new → 2 * (most - new) + left < 2 * (most - old) + length pending
+fewer_left most pending popped last old new left taken count room longer = omega (arith, ap length taken, length-append popped (last ∷ []), count, room, longer)
+
+-- what is left is shorter without the last of it
+pub popped_shorter : {X : Type 0} (whole left : List X) (last : X) → whole ≡ left ++ last ∷ [] → length left < length whole
+popped_shorter whole left last taken = omega (arith, ap length taken, length-append left (last ∷ []))
+
+-- where as many as there may be are there, and no more, it is so many
+pub all_there : (number there most : ℕ) → number ≡ there → most ≤ number → there ≤ most → there ≡ most
+all_there number there most same many few = omega (arith, same, many, few)

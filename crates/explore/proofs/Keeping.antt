@@ -8,22 +8,21 @@ use Rattle.std.proofs.lemmas.Bool.{cases_lt}
 use Rattle.std.proofs.lemmas.List.{get_or_append_left}
 use Rattle.std.proofs.Math.Seq.{get_or-append_seam}
 use Rattle.sharing.specs.Parts.{Extends}
-use Rattle.explore.specs.Grown.{IsLastPart, grown}
+use Rattle.explore.specs.Grown.{grown}
 use Rattle.explore.specs.Pieces.{pieces}
 use Rattle.explore.specs.Placed.{IsPlaced, ArePlaced}
-use Rattle.explore.specs.SearchKept.{IsText, IsVisited, AreKept, Grows}
+use Rattle.explore.specs.SearchKept.{AreKept, AreKeptFurther, Grows, IsBare, IsText, IsVisited, StayUnmarked}
 use Rattle.explore.specs.SearchedRuns.{Runs}
-use Rattle.explore.specs.Search.{IsPrinted, Serves, IsShown, IsFollowed}
+use Rattle.explore.specs.Search.{Serves, IsShown, IsFollowed}
 use Rattle.explore.specs.NumberedTexts.{texts, IsTexts}
 use Rattle.explore.specs.Lineage.{ways, IsLineage}
 use Rattle.explore.specs.Visited.{IsThere, visits, AreVisits}
 use Rattle.explore.specs.declared.Shown.{Shown}
 use Rattle.explore.specs.declared.kept.KeptNodes.{KeptNodes}
 use Rattle.explore.specs.declared.kept.Reached.{Reached}
-use Rattle.explore.specs.declared.recent.Placed.{Placed}
 use Rattle.explore.specs.declared.lineage.Lineage.{Lineage}
 use Rattle.explore.proofs.Growing.{Extends-itself, Extends-through, length-extends, get_or-extends, length-grown, get_or-grown, slice_get_push, none_some}
-use Rattle.explore.proofs.Places.{All-last, ArePlaced-more, ArePlaced-push}
+use Rattle.explore.proofs.Places.{ArePlaced-more}
 use Rattle.explore.proofs.Complete.{Any-extends, IsFollowed-more, AreFollowed}
 
 -- a run's text stays its text
@@ -76,16 +75,17 @@ Grows-texts {M} {N} old new lineage edges longer pending =
       waits = λ k low high. absurd (omega (arith, same));
     }
 
--- the text of a run that goes on from another by these moves, whose text goes on by what they print
-pub IsText-next : {M N E : Type 0} (runs : Runs M N E) (old new : List (List M)) (told told' : List (List ℕ)) (from : Reached) (text : ℕ) (moves : List M) (printed : List ℕ) → IsText runs old told from → IsPrinted runs (get_or old from.number []) moves printed →
-    new ≡ grown old from.number moves → text < length told' → get_or told' text [] ≡ get_or told from.text [] ++ printed → IsText runs new told' (record { number = length old; text = text })
-IsText-next {M} runs old new told told' from text moves printed at print more within longer =
-    let last : get_or new (length old) [] ≡ get_or old from.number [] ++ moves = ap (λ (l : List (List M)). get_or l (length old) []) more ∙ get_or-grown old from.number moves in
-    let long : length new ≡ suc (length old) = ap length more ∙ length-grown old from.number moves in
+-- the moves of a run that was added
+pub last_grown : {M : Type 0} (old new : List (List M)) (from : ℕ) (moves : List M) → new ≡ grown old from moves → get_or new (length old) [] ≡ get_or old from [] ++ moves
+last_grown {M} old new from moves more = ap (λ (l : List (List M)). get_or l (length old) []) more ∙ get_or-grown old from moves
+
+-- the text of a run that goes on from another by these moves
+pub IsText-next : {M N E : Type 0} (runs : Runs M N E) (old new : List (List M)) (told : List (List ℕ)) (from text : ℕ) (moves : List M) → new ≡ grown old from moves → text < length told → get_or told text [] ≡ runs.text (get_or old from [] ++ moves) → IsText runs new told (record { number = length old; text = text })
+IsText-next {M} runs old new told from text moves more within same =
     record {
-      way = omega (arith, long);
+      way = omega (arith, ap length more, length-grown old from moves);
       told = within;
-      same = longer ∙ (ap (λ l. l ++ printed) at.same ∙ (sym print ∙ ap runs.text (sym last)));
+      same = same ∙ ap runs.text (sym (last_grown old new from moves more));
     }
 
 visited_pushed : {M N E : Type 0} (runs : Runs M N E) (HasKey : N → List ℕ → Type 0) (old new : List (List M)) (told told' : List (List ℕ)) (keys : List (ℕ × List ℕ)) (visit v : ℕ × List ℕ) (k : ℕ) → Extends old new → Extends told told' → length keys ≡ length old →
@@ -99,13 +99,13 @@ visited_pushed runs HasKey old new told told' keys visit v k more longer count b
       (subst (λ (n : ℕ). IsVisited runs HasKey new told' (record { number = n; text = visit.0 }) visit.1) at now)
 ]
 
--- what is kept is good where a run is added, with its text, its visit and its node
-pub AreKept-push : {M N E : Type 0} (runs : Runs M N E) (HasKey : N → List ℕ → Type 0) (old new : KeptNodes N M) (from text : ℕ) (moves : List M) (visit : ℕ × List ℕ) (p : Reached) (last : Placed N) → AreKept runs HasKey old →
+-- what is kept is good where a run is added, with its text and its visit
+pub AreKept-push : {M N E : Type 0} (runs : Runs M N E) (HasKey : N → List ℕ → Type 0) (old new : KeptNodes N M) (from text : ℕ) (moves : List M) (visit : ℕ × List ℕ) (p : Reached) → AreKept runs HasKey old →
     IsLineage new.lineage → ways new.lineage ≡ grown (ways old.lineage) from moves → IsTexts new.texts → Extends (texts old.texts) (texts new.texts) →
     AreVisits new.visited → visits new.visited ≡ visits old.visited ++ visit ∷ [] → new.pending.items ≡ old.pending.items ++ p ∷ [] →
     IsVisited runs HasKey (ways new.lineage) (texts new.texts) (record { number = length (ways old.lineage); text = visit.0 }) visit.1 → IsText runs (ways new.lineage) (texts new.texts) p →
-    IsLastPart new.nodes.newest.nodes.items (old.nodes.newest.nodes.items ++ last ∷ []) → new.nodes.checkpoints ≡ old.nodes.checkpoints → IsPlaced runs (ways new.lineage) last → AreKept runs HasKey new
-AreKept-push {M} {N} runs HasKey old new from text moves visit p last kept lineage added ok longer whole keys pending seen told newest checkpoints placed =
+    new.nodes ≡ old.nodes → AreKept runs HasKey new
+AreKept-push {M} {N} runs HasKey old new from text moves visit p kept lineage added ok longer whole keys pending seen told nodes =
     let more : Extends (ways old.lineage) (ways new.lineage) = (_, added) in
     record {
       lineage = lineage;
@@ -117,10 +117,10 @@ AreKept-push {M} {N} runs HasKey old new from text moves visit p last kept linea
       pending = subst (λ (l : List Reached). All (IsText runs (ways new.lineage) (texts new.texts)) l) (sym pending)
           (All-push (IsText runs (ways new.lineage) (texts new.texts)) old.pending.items p
           (λ k d less. IsText-more runs (ways old.lineage) (ways new.lineage) (texts old.texts) (texts new.texts) (get_or old.pending.items k d) more longer (kept.pending k d less)) told);
-      placed = ArePlaced-push runs (ways old.lineage) (ways new.lineage) old.nodes new.nodes last more kept.placed newest checkpoints placed;
+      placed = subst (ArePlaced runs (ways new.lineage)) (sym nodes) (ArePlaced-more runs (ways old.lineage) (ways new.lineage) old.nodes more kept.placed);
     }
 
--- what is kept grows where a run is added, with its node
+-- what is kept grows where a run is added
 pub Grows-push : {M N : Type 0} (old new : KeptNodes N M) (from : ℕ) (moves : List M) (p : Reached) → ways new.lineage ≡ grown (ways old.lineage) from moves → Extends (pieces old.lineage.steps) (pieces new.lineage.steps) → Extends old.links.edges.items new.links.edges.items → Extends (texts old.texts) (texts new.texts) →
     new.pending.items ≡ old.pending.items ++ p ∷ [] → p.number ≡ length (ways old.lineage) → Grows old new
 Grows-push {M} {N} old new from moves p added steps edges longer pending number =
@@ -156,13 +156,13 @@ Grows-through {M} {N} a b c first second =
       waits = λ k low high. waits_through a b c k first second low high;
     }
 
+-- what is kept further, and further from there
+pub further_through : {M N E : Type 0} (runs : Runs M N E) (HasKey : N → List ℕ → Type 0) (time_of : N → ℕ) (most : ℕ) (a b c : KeptNodes N M) → Grows a b → StayUnmarked a b → AreKeptFurther runs HasKey time_of most b c → AreKeptFurther runs HasKey time_of most a c
+further_through runs HasKey time_of most a b c grows stay then = record { well = then.well; grows = Grows-through a b c grows then.grows; unmarked = λ k none. stay k (then.unmarked k none) }
+
 -- what is kept grows from itself
 pub Grows-itself : {M N : Type 0} (a : KeptNodes N M) → Grows a a
 Grows-itself a = Grows-texts a a refl (Extends-itself a.links.edges.items) (Extends-itself (texts a.texts)) refl
-
--- the moves of a run that was added
-pub last_grown : {M : Type 0} (old new : List (List M)) (from : ℕ) (moves : List M) → new ≡ grown old from moves → get_or new (length old) [] ≡ get_or old from [] ++ moves
-last_grown {M} old new from moves more = ap (λ (l : List (List M)). get_or l (length old) []) more ∙ get_or-grown old from moves
 
 -- the visit of a node that is added
 pub IsVisited-next : {M N E : Type 0} (runs : Runs M N E) (HasKey : N → List ℕ → Type 0) (old new : List (List M)) (told : List (List ℕ)) (node : N) (from text : ℕ) (moves : List M) (key : List ℕ) → new ≡ grown old from moves → runs.Stands node (get_or old from [] ++ moves) → HasKey node key →
@@ -171,12 +171,8 @@ IsVisited-next {M} runs HasKey old new told node from text moves key more stands
     record { node = node; stands = subst (λ (l : List M). runs.Stands node l) (sym (last_grown old new from moves more)) stands; keyed = keyed; text = at }
 
 -- a node that is added stands at the run that is added
-pub IsPlaced-next : {M N E : Type 0} (runs : Runs M N E) (old new : List (List M)) (p : Placed N) (from : ℕ) (moves : List M) → new ≡ grown old from moves → runs.Stands p.node (get_or old from [] ++ moves) → p.number ≡ length old → IsPlaced runs new p
-IsPlaced-next {M} runs old new p from moves more stands number =
-    record {
-      within = omega (arith, ap length more, length-grown old from moves, number);
-      stands = subst (λ (l : List M). runs.Stands p.node l) (sym (ap (λ (n : ℕ). get_or new n []) number ∙ last_grown old new from moves more)) stands;
-    }
+pub stands_next : {M N E : Type 0} (runs : Runs M N E) (old new : List (List M)) (node : N) (from : ℕ) (moves : List M) → new ≡ grown old from moves → runs.Stands node (get_or old from [] ++ moves) → runs.Stands node (get_or new (length old) [])
+stands_next {M} runs old new node from moves more stands = subst (λ (l : List M). runs.Stands node l) (sym (last_grown old new from moves more)) stands
 
 -- what is kept is good without the node that was added last, which is pending, and with other nodes that stand at their runs
 pub AreKept-pop : {M N E : Type 0} (runs : Runs M N E) (HasKey : N → List ℕ → Type 0) (old new : KeptNodes N M) (p : Reached) → AreKept runs HasKey old → new.lineage ≡ old.lineage → new.texts ≡ old.texts → new.visited ≡ old.visited → old.pending.items ≡ new.pending.items ++ p ∷ [] → ArePlaced runs (ways old.lineage) new.nodes →
@@ -207,41 +203,36 @@ only_visit runs HasKey w t visit v k first e = elim (slice_get_push [] visit v k
   | inr h ↦ subst (λ (x : ℕ × List ℕ). IsVisited runs HasKey w t (record { number = k; text = x.0 }) x.1) h.1 (subst (λ (n : ℕ). IsVisited runs HasKey w t (record { number = n; text = visit.0 }) visit.1) (sym h.0) first)
 ]
 
--- what is kept at first
-pub AreKept-first : {M N E : Type 0} (runs : Runs M N E) (HasKey : N → List ℕ → Type 0) (new : KeptNodes N M) (p : Reached) (first_node : Placed N) (visit : ℕ × List ℕ) → IsLineage new.lineage → ways new.lineage ≡ [] ∷ [] → IsTexts new.texts → texts new.texts ≡ [] ∷ [] → AreVisits new.visited → visits new.visited ≡ visit ∷ [] → new.pending.items ≡ [] ++ p ∷ [] →
-    IsLastPart new.nodes.newest.nodes.items ([] ++ first_node ∷ []) → new.nodes.checkpoints.nodes.items ≡ [] → first_node.number ≡ 0 →
-    visit.0 ≡ 0 → p ≡ record { number = 0; text = 0 } → runs.Stands first_node.node [] → HasKey first_node.node visit.1 → runs.text [] ≡ [] → AreKept runs HasKey new
-AreKept-first {M} {N} runs HasKey new p first_node visit lineage one told none whole keys pending newest checkpoints number zeroth reached stands keyed silent =
+-- what is kept at first, by what was kept before it
+pub AreKept-first : {M N E : Type 0} (runs : Runs M N E) (HasKey : N → List ℕ → Type 0) (old new : KeptNodes N M) (node : N) (visit : ℕ × List ℕ) → IsBare old → new.lineage ≡ old.lineage → new.texts ≡ old.texts → AreVisits new.visited → visits new.visited ≡ visit ∷ [] →
+    new.pending.items ≡ record { number = 0; text = 0 } ∷ [] → new.nodes ≡ old.nodes → visit.0 ≡ 0 → runs.Stands node [] → HasKey node visit.1 → runs.text [] ≡ [] → AreKept runs HasKey new
+AreKept-first {M} {N} runs HasKey old new node visit bare lineage told whole keys pending nodes zeroth stands keyed silent =
+    let one : ways new.lineage ≡ [] ∷ [] = ap (λ (t : Lineage M). ways t) lineage ∙ bare.run in
+    let none : texts new.texts ≡ [] ∷ [] = ap texts told ∙ bare.empty in
     let first : get_or (ways new.lineage) 0 [] ≡ [] = ap (λ (l : List (List M)). get_or l 0 []) one in
     let at : IsText runs (ways new.lineage) (texts new.texts) (record { number = 0; text = 0 }) = record {
       way = omega (arith, ap length one);
       told = omega (arith, ap length none);
       same = ap (λ (l : List (List ℕ)). get_or l 0 []) none ∙ (sym silent ∙ ap runs.text (sym first));
     } in
-    let standing : runs.Stands first_node.node (get_or (ways new.lineage) 0 []) = subst (λ (l : List M). runs.Stands first_node.node l) (sym first) stands in
     let seen : IsVisited runs HasKey (ways new.lineage) (texts new.texts) (record { number = 0; text = visit.0 }) visit.1 = record {
-      node = first_node.node;
-      stands = standing;
+      node = node;
+      stands = subst (λ (l : List M). runs.Stands node l) (sym first) stands;
       keyed = keyed;
       text = subst (λ (n : ℕ). IsText runs (ways new.lineage) (texts new.texts) (record { number = 0; text = n })) (sym zeroth) at;
     } in
-    let last : IsText runs (ways new.lineage) (texts new.texts) p = subst (λ (x : Reached). IsText runs (ways new.lineage) (texts new.texts) x) (sym reached) at in
-    let placed : IsPlaced runs (ways new.lineage) first_node = record {
-      within = omega (arith, ap length one, number);
-      stands = subst (λ (n : ℕ). runs.Stands first_node.node (get_or (ways new.lineage) n [])) (sym number) standing;
-    } in
     record {
-      lineage = lineage;
-      told = told;
+      lineage = subst IsLineage (sym lineage) bare.lineage;
+      told = subst IsTexts (sym told) bare.told;
       whole = whole;
       count = omega (arith, ap length keys, ap length one);
       visited = λ k v e. only_visit runs HasKey (ways new.lineage) (texts new.texts) visit v k seen (ap (λ (l : List (ℕ × List ℕ)). slice_get l k) (sym keys) ∙ e);
       pending = subst (λ (l : List Reached). All (IsText runs (ways new.lineage) (texts new.texts)) l) (sym pending)
-          (All-push (IsText runs (ways new.lineage) (texts new.texts)) [] p (All-nil (IsText runs (ways new.lineage) (texts new.texts))) last);
-      placed = record {
-        newest = All-last (IsPlaced runs (ways new.lineage)) new.nodes.newest.nodes.items ([] ++ first_node ∷ []) newest (All-push (IsPlaced runs (ways new.lineage)) [] first_node (All-nil (IsPlaced runs (ways new.lineage))) placed);
-        checkpoints = subst (All (IsPlaced runs (ways new.lineage))) (sym checkpoints) (All-nil (IsPlaced runs (ways new.lineage)));
-      };
+          (All-push (IsText runs (ways new.lineage) (texts new.texts)) [] (record { number = 0; text = 0 }) (All-nil (IsText runs (ways new.lineage) (texts new.texts))) at);
+      placed = subst (ArePlaced runs (ways new.lineage)) (sym nodes) (record {
+        newest = subst (All (IsPlaced runs (ways new.lineage))) (sym bare.newest) (All-nil (IsPlaced runs (ways new.lineage)));
+        checkpoints = subst (All (IsPlaced runs (ways new.lineage))) (sym bare.checkpoints) (All-nil (IsPlaced runs (ways new.lineage)));
+      });
     }
 
 -- one of some elements with one more is one of them, or that one

@@ -1,6 +1,6 @@
 -- Nodes at the runs with their numbers.
-use Rattle.std.proofs.Common.{◌≡◌, ℕ, ◌<◌, List, [], ◌∷◌, ◌++◌, length, get_or, refl, sym, ap, ◌∙◌, append_assoc, subst, arith, Option, Some, None}
-use Rattle.std.specs.Prelude.{IfSome}
+use Rattle.std.proofs.Common.{◌≡◌, ℕ, ◌<◌, List, [], ◌∷◌, ◌++◌, length, get_or, sym, ap, ◌∙◌, append_assoc, subst, arith}
+use Rattle.std.specs.Prelude.{Err, IfOk, Ok, OnOk, Result}
 use Rattle.std.specs.List.{All, Any, Contains}
 use Rattle.std.proofs.lemmas.List.{get_or_default}
 use Rattle.std.proofs.lemmas.List.Elements.{All-push, All-contains, Contains-append_left, Contains-append_right}
@@ -10,7 +10,6 @@ use Rattle.explore.specs.Placed.{IsNodeAt, IsPlaced, ArePlaced, AreStood}
 use Rattle.explore.specs.SearchedRuns.{Runs}
 use Rattle.explore.specs.declared.again.Nodes.{Nodes}
 use Rattle.explore.specs.declared.recent.Placed.{Placed}
-use Rattle.explore.specs.declared.recent.Recent.{Recent}
 use Rattle.explore.proofs.Growing.{get_or-extends, length-extends}
 
 -- what holds of whatever is among some elements holds of each
@@ -55,13 +54,9 @@ ArePlaced-more runs old new nodes more placed =
     }
 
 -- nodes stand at their runs where one is added, and the oldest may have gone
-pub ArePlaced-push : {M N E : Type 0} (runs : Runs M N E) (old new : List (List M)) (nodes nodes' : Nodes N) (p : Placed N) → Extends old new → ArePlaced runs old nodes →
-    IsLastPart nodes'.newest.nodes.items (nodes.newest.nodes.items ++ p ∷ []) → nodes'.checkpoints ≡ nodes.checkpoints → IsPlaced runs new p → ArePlaced runs new nodes'
-ArePlaced-push {M} {N} runs old new nodes nodes' p more placed part checkpoints at =
-    record {
-      newest = All-last (IsPlaced runs new) nodes'.newest.nodes.items (nodes.newest.nodes.items ++ p ∷ []) part (All-push (IsPlaced runs new) nodes.newest.nodes.items p (all_more runs old new nodes.newest.nodes.items more placed.newest) at);
-      checkpoints = subst (λ (m : Recent N). All (IsPlaced runs new) m.nodes.items) (sym checkpoints) (all_more runs old new nodes.checkpoints.nodes.items more placed.checkpoints);
-    }
+pub placed_push : {M N E : Type 0} (runs : Runs M N E) (ways : List (List M)) (before after : List (Placed N)) (p : Placed N) → All (IsPlaced runs ways) before → IsLastPart after (before ++ p ∷ []) → p.number < length ways → runs.Stands p.node (get_or ways p.number []) → All (IsPlaced runs ways) after
+placed_push runs ways before after p placed part within stands =
+    All-last (IsPlaced runs ways) after (before ++ p ∷ []) part (All-push (IsPlaced runs ways) before p placed (record { within = within; stands = stands }))
 
 -- the node that was taken out stands at the run with its number
 pub taken_stands : {M N E : Type 0} (runs : Runs M N E) (ways : List (List M)) (ps : List (Placed N)) (number : ℕ) (node : N) → All (IsPlaced runs ways) ps → Any (IsNodeAt number node) ps → runs.Stands node (get_or ways number [])
@@ -75,3 +70,13 @@ pub again_stands : {M N E : Type 0} (runs : Runs M N E) (ways : List (List M)) (
 again_stands {M} runs ways number run moves from node within stood is stands made =
     let at = stood number within in
     subst (λ (l : List M). runs.Stands node l) (sym is) (made run at.0 stands (subst (λ (l : List M). runs.Stands at.0 l) is at.1))
+
+-- what holds where something comes out holds of more, where that follows
+pub ok_map : {X F : Type 0} (P Q : X → Type 0) (r : Result X F) → ((x : X) → P x → Q x) → IfOk r P → IfOk r Q
+ok_map P Q (Ok x) more is = more x is
+ok_map P Q (Err fault) more is = tt
+
+-- what holds holds where something comes out
+pub ok_always : {X F : Type 0} (r : Result X F) (P : Type 0) → P → OnOk r P
+ok_always (Ok x) P is = is
+ok_always (Err fault) P is = tt

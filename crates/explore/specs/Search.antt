@@ -1,6 +1,7 @@
 -- What is shown of the runs, what covers a node, and what it means that all is shown.
-use Rattle.std.specs.Prelude.{◌≡◌, ℕ, ◌<◌, List, [], ◌++◌, length, get_or, Option, Some, None, ◌⊎◌}
-use Rattle.std.specs.List.{All, Any}
+use Rattle.std.specs.Prelude.{◌≡◌, ℕ, ◌<◌, ◌≤◌, List, [], ◌++◌, length, get_or, Option, Some, None, ◌⊎◌}
+use Rattle.std.specs.List.{All, AllPairs, Any}
+use Rattle.sharing.specs.Parts.{Extends}
 use Rattle.explore.specs.SearchedRuns.{Runs}
 use Rattle.explore.specs.declared.EndedPath.{EndedPath}
 use Rattle.explore.specs.declared.Successor.{Successor}
@@ -23,6 +24,17 @@ AreDistinct a b = a.text.items ≡ b.text.items → a.end ≡ b.end → ⊥
 -- what is shown is the text and the end of the run of its moves, which are no more than they may be
 abbrev pub IsOfRun : {Move Node End : Type 0} → Runs Move Node End → Shown Move End → Type 0
 IsOfRun runs shown = runs.Ends shown.moves.items shown.end × (shown.text.items ≡ runs.text shown.moves.items) × runs.Within shown.moves.items
+
+-- What is shown is of these runs, no two of it alike, and no more than there may be.
+pub record AreShownWell {Move Node End : Type 0} (runs : Runs Move Node End) (most : ℕ) (shown : List (Shown Move End)) : Type 0 where
+  pub sound : All (IsOfRun runs) shown
+  pub distinct : AllPairs AreDistinct shown
+  pub few : length shown ≤ most
+
+-- What was shown stays, and with what was added it is of these runs, no two of it alike, and no more than there may be.
+pub record AreShownFurther {Move Node End : Type 0} (runs : Runs Move Node End) (most : ℕ) (old new : List (Shown Move End)) : Type 0 where
+  pub well : AreShownWell runs most new
+  pub more : Extends old new
 
 -- the node stands at some run
 abbrev pub IsReached : {Move Node End : Type 0} → Runs Move Node End → Node → Type 0

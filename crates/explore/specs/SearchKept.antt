@@ -1,17 +1,17 @@
 -- What a search keeps.
-use Rattle.std.specs.Prelude.{◌≡◌, ℕ, ◌+◌, ◌<◌, ◌≤◌, List, [], ◌++◌, length, get_or, Some, slice_get}
+use Rattle.std.specs.Prelude.{◌≡◌, ℕ, ◌+◌, ◌<◌, ◌≤◌, List, [], ◌∷◌, ◌++◌, true, length, get_or, Some, slice_get}
 use Rattle.std.specs.List.{All, Any}
 use Rattle.explore.specs.Visited.{visits, AreVisits}
 use Rattle.sharing.specs.Parts.{Extends}
-use Rattle.explore.specs.Pieces.{pieces, ArePieces}
+use Rattle.explore.specs.Pieces.{pieces}
 use Rattle.explore.specs.SearchedRuns.{Runs}
 use Rattle.explore.specs.Search.{Serves}
 use Rattle.explore.specs.NumberedTexts.{texts, IsTexts}
 use Rattle.explore.specs.Lineage.{ways, IsLineage}
 use Rattle.explore.specs.Links.{IsLinked, IsUnmarked}
 use Rattle.explore.specs.Placed.{ArePlaced}
+use Rattle.explore.specs.Reach.{AreTimed}
 use Rattle.explore.specs.declared.kept.KeptNodes.{KeptNodes}
-use Rattle.explore.specs.declared.kept.Pending.{Pending}
 use Rattle.explore.specs.declared.kept.Reached.{Reached}
 use Rattle.explore.specs.declared.text_table.TextTable.{TextTable}
 use Rattle.explore.specs.declared.lineage.Lineage.{Lineage}
@@ -35,11 +35,6 @@ pub record IsVisited {Move Node End : Type 0} (runs : Runs Move Node End) (HasKe
   pub keyed : HasKey node key
   pub text : IsText runs ways texts reached
 
--- the node that is expanded next stands at the run of its number
-pub record IsPendingNode {Move Node End : Type 0} (runs : Runs Move Node End) (ways : List (List Move)) (texts : List (List ℕ)) (pending : Pending Node) : Type 0 where
-  pub stands : runs.Stands pending.node (get_or ways pending.reached.number [])
-  pub text : IsText runs ways texts pending.reached
-
 -- runs, texts and nodes belong together, the runs of pending nodes are there, and for each run there is the visit of a node that
 -- stands at it
 pub record AreKept {Move Node End : Type 0} (runs : Runs Move Node End) (HasKey : Node → List ℕ → Type 0) (kept : KeptNodes Node Move) : Type 0 where
@@ -50,6 +45,34 @@ pub record AreKept {Move Node End : Type 0} (runs : Runs Move Node End) (HasKey 
   pub visited : (k : ℕ) (visit : ℕ × List ℕ) → slice_get (visits kept.visited) k ≡ Some visit → IsVisited runs HasKey (ways kept.lineage) (texts kept.texts) (record { number = k; text = visit.0 }) visit.1
   pub pending : All (IsText runs (ways kept.lineage) (texts kept.texts)) kept.pending.items
   pub placed : ArePlaced runs (ways kept.lineage) kept.nodes
+
+-- What is kept of these runs is good and of no more of them than there may be, and the times are those of the runs' nodes.
+pub record AreKeptWell {Move Node End : Type 0} (runs : Runs Move Node End) (HasKey : Node → List ℕ → Type 0) (time_of : Node → ℕ) (most : ℕ) (kept : KeptNodes Node Move) : Type 0 where
+  pub good : AreKept runs HasKey kept
+  pub timed : AreTimed runs time_of (ways kept.lineage) kept.links.times.items
+  pub room : length (ways kept.lineage) ≤ most
+
+-- The run that has no moves and the empty text are kept alone, and no node was reached.
+pub record IsBare {Node Move : Type 0} (kept : KeptNodes Node Move) : Type 0 where
+  pub lineage : IsLineage kept.lineage
+  pub run : ways kept.lineage ≡ [] ∷ []
+  pub told : IsTexts kept.texts
+  pub empty : texts kept.texts ≡ [] ∷ []
+  pub whole : AreVisits kept.visited
+  pub unvisited : visits kept.visited ≡ []
+  pub unlinked : kept.links.may_end.items ≡ []
+  pub untimed : kept.links.times.items ≡ []
+  pub idle : kept.pending.items ≡ []
+  pub newest : kept.nodes.newest.nodes.items ≡ []
+  pub checkpoints : kept.nodes.checkpoints.nodes.items ≡ []
+
+-- Of the run that has no moves alone a node was reached, which is pending. A run may end at it.
+pub record IsBegun {Move Node End : Type 0} (runs : Runs Move Node End) (HasKey : Node → List ℕ → Type 0) (time_of : Node → ℕ) (kept : KeptNodes Node Move) : Type 0 where
+  pub good : AreKept runs HasKey kept
+  pub run : ways kept.lineage ≡ [] ∷ []
+  pub waits : Any (λ reached. reached.number ≡ 0) kept.pending.items
+  pub unmarked : kept.links.may_end.items ≡ true ∷ []
+  pub timed : AreTimed runs time_of (ways kept.lineage) kept.links.times.items
 
 -- runs, their steps, edges and texts stay, and for each run that was added there is one more whose node is pending
 pub record Grows {Node Move : Type 0} (old new : KeptNodes Node Move) : Type 0 where
@@ -65,11 +88,10 @@ pub record Grows {Node Move : Type 0} (old new : KeptNodes Node Move) : Type 0 w
 abbrev pub StayUnmarked : {Node Move : Type 0} → KeptNodes Node Move → KeptNodes Node Move → Type 0
 StayUnmarked old new = (k : ℕ) → IsUnmarked new.links.may_end.items k → IsUnmarked old.links.may_end.items k
 
--- What is kept of these runs grew, and is of no more runs than there may be; nodes at which no run ends stay so.
-pub record AreKeptFurther {Move Node End : Type 0} (runs : Runs Move Node End) (HasKey : Node → List ℕ → Type 0) (most : ℕ) (old new : KeptNodes Node Move) : Type 0 where
-  pub kept : AreKept runs HasKey new
+-- What is kept of these runs grew, and is good; nodes at which no run ends stay so.
+pub record AreKeptFurther {Move Node End : Type 0} (runs : Runs Move Node End) (HasKey : Node → List ℕ → Type 0) (time_of : Node → ℕ) (most : ℕ) (old new : KeptNodes Node Move) : Type 0 where
+  pub well : AreKeptWell runs HasKey time_of most new
   pub grows : Grows old new
-  pub room : length (ways new.lineage) ≤ most
   pub unmarked : StayUnmarked old new
 
 -- one of the runs that were reached serves this one

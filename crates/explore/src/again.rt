@@ -73,8 +73,7 @@ fn make_whole<O: Orders>(
 {
     let moves = lineage.way(scope.alloc, number)?;
     let start = scope.orders.start(scope.alloc)?;
-    let node = scope.orders.again(scope.alloc, room, &start, &moves)?;
-    Ok(node)
+    scope.orders.again(scope.alloc, room, &start, &moves)
 }
 
 // The node of a run, made from the newest checkpoint where the run goes on from that, and else from the start.
@@ -94,12 +93,9 @@ fn make<O: Orders>(
     };
     let further = lineage.way_from(scope.alloc, checkpoint.number, number)?;
     match further {
-        Some(moves) => {
-            let node = scope
-                .orders
-                .again(scope.alloc, room, &checkpoint.node, &moves)?;
-            Ok(node)
-        }
+        Some(moves) => scope
+            .orders
+            .again(scope.alloc, room, &checkpoint.node, &moves),
         None => make_whole(scope, room, lineage, number),
     }
 }
@@ -174,6 +170,5 @@ pub(crate) fn node_at<O: Orders>(
     }
     drop_astray(lineage, &mut nodes.checkpoints, number);
     place_all(scope, room, lineage, &mut nodes.checkpoints, number)?;
-    let node = make(scope, room, lineage, &nodes.checkpoints, number)?;
-    Ok(node)
+    make(scope, room, lineage, &nodes.checkpoints, number)
 }

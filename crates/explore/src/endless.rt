@@ -241,6 +241,5 @@ pub(crate) fn find_endless<M: Copy>(
     ensures { IfOk result (λ found. IfSome found (λ moves. IsNeverEnding lineage.now links.now moves.items)) }
 {
     let marks = marks_of(alloc, lineage, links)?;
-    let found = unmarked_way(alloc, lineage, links, &marks)?;
-    Ok(found)
+    unmarked_way(alloc, lineage, links, &marks)
 }

@@ -34,7 +34,7 @@ mod visited;
 
 pub use orders::Orders;
 pub use search::explore;
-use std::alloc::Global;
+use std::alloc::{AllocError, Global};
 pub use stopped::Stopped;
 
 /// A node, what was printed on the way to it from the one that was expanded, and the moves of that way.
@@ -104,9 +104,16 @@ pub struct Bounds {
 }
 
 /// What is searched, how far, and what gives memory for it.
-#[derive_where(Clone, Copy)]
 struct SearchScope<'a, O> {
     alloc: Global,
     orders: &'a O,
     bounds: Bounds,
+}
+
+impl<O> Copy for SearchScope<'_, O> {}
+
+impl<O> Clone for SearchScope<'_, O> {
+    fn clone(&self) -> Result<Self, AllocError> {
+        Ok(*self)
+    }
 }

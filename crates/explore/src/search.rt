@@ -1,19 +1,18 @@
 //! The search.
-ghost use Rattle.std.specs.Prelude.{◌≡◌, ◌<◌, ◌≤◌, ◌⊎◌, ◌∷◌, [], true, false, length, get_or, None, Some, IsTrue, IfOk, IfSome, OnOk};
-ghost use Rattle.std.specs.List.{All, AllPairs, Any};
-ghost use Rattle.sharing.specs.Parts.{Extends};
-ghost use Rattle.explore.specs.SearchKept.{AreContinued, AreKept, Grows, IsPendingNode};
-ghost use Rattle.explore.specs.Search.{AreAllShown, AreCounted, AreDistinct, IsEndless, IsFollowed, IsOfRun, IsShown, Serves};
-ghost use Rattle.explore.specs.Outcome.{followed_before_of, stopped_of};
-ghost use Rattle.explore.specs.Reach.{AreFollowedBefore, AreTimed, HasNode, IsNoLater, IsWayAmong, earliest};
+ghost use Rattle.std.specs.Prelude.{◌≡◌, ◌<◌, ◌≤◌, ◌⊎◌, [], true, false, length, get_or, None, Some, IsTrue, IfOk, IfSome};
+ghost use Rattle.std.specs.List.{All, AllPairs};
+ghost use Rattle.explore.specs.SearchKept.{AreContinued, AreKeptWell, IsBare, IsBegun, IsText};
+ghost use Rattle.explore.specs.Search.{AreAllShown, AreCounted, AreDistinct, AreShownFurther, AreShownWell, IsEndless, IsOfRun};
+ghost use Rattle.explore.specs.Outcome.{IsExpanded, IsSearched};
+ghost use Rattle.explore.specs.Reach.{AreFollowedBefore, HasNode, IsNoLater, IsWayAmong, earliest};
 ghost use Rattle.explore.specs.NumberedTexts.{texts};
 ghost use Rattle.explore.specs.Lineage.{ways, IsLineage};
 ghost use Rattle.explore.specs.declared.stopped.Stopped.TheVariants as stop;
 
 use crate::again::node_at;
-use crate::choices::{ChoiceCounts, widest_way};
+use crate::choices::widest_way;
 use crate::endless::find_endless;
-use crate::kept::{KeptNodes, Pending, first, follow_all};
+use crate::kept::{KeptNodes, Reached, begin, follow_all};
 use crate::reach::{earliest, earliest_left, earliest_pending};
 use crate::show::{ReachedRun, bytes_since, show_all};
 use crate::{Bounds, Expanded, Explored, Orders, SearchScope, Shown, Stopped};
@@ -81,38 +80,23 @@ fn earlier(one: Option<Stopped>, other: Option<Stopped>) -> Option<Stopped>
     }
 }
 
-/// Expands a node: shows its ways that have come to an end, keeps the nodes that the others lead to, and counts these ways, and the bytes
-/// of what is shown. The answer is why something was left out. Where that is a text, the nodes aren't kept.
+/// Expands the node of a run: shows its ways that have come to an end, keeps the nodes that the others lead to, and counts these ways, and
+/// the bytes of what is shown. The answer is why something was left out. Where that is a text, the nodes aren't kept.
 fn expand_node<O: Orders>(
     scope: SearchScope<'_, O>,
     room: &mut O::Room,
     kept: &mut KeptNodes<O::Node, O::Move>,
     shown: &mut Vec<Shown<O::Move, O::End>>,
-    choices: &mut ChoiceCounts,
-    at: Pending<O::Node>,
+    reached: Reached,
 ) -> Result<Option<Stopped>, AllocError>
-    requires kept { AreKept (O.runs scope.orders.now) (O.has_key scope.orders.now) kept.old }
+    requires well { AreKeptWell (O.runs scope.orders.now) (O.has_key scope.orders.now) (O.time_of scope.orders.now) scope.bounds.nodes kept.old }
     requires continued { AreContinued (O.runs scope.orders.now) kept.old }
-    requires room { length (ways kept.old.lineage) ≤ scope.bounds.nodes }
-    requires sound { All (IsOfRun (O.runs scope.orders.now)) shown.old.items }
-    requires distinct { AllPairs AreDistinct shown.old.items }
-    requires few { length shown.old.items ≤ scope.bounds.shown }
-    requires at { IsPendingNode (O.runs scope.orders.now) (ways kept.old.lineage) (texts kept.old.texts) at }
-    requires timed { AreTimed (O.runs scope.orders.now) (O.time_of scope.orders.now) (ways kept.old.lineage) kept.old.links.times.items }
-    ensures sound { All (IsOfRun (O.runs scope.entry.orders.now)) shown.new.items }
-    ensures distinct { AllPairs AreDistinct shown.new.items }
-    ensures shown { Extends shown.old.items shown.new.items }
-    ensures few { length shown.new.items ≤ scope.entry.bounds.shown }
-    ensures kept { OnOk result (AreKept (O.runs scope.entry.orders.now) (O.has_key scope.entry.orders.now) kept.new) }
-    ensures grows { OnOk result (Grows kept.old kept.new) }
-    ensures room { OnOk result (length (ways kept.new.lineage) ≤ scope.entry.bounds.nodes) }
-    ensures full { IfOk result (λ left. left ≡ Some stop.Shown → length shown.new.items ≡ scope.entry.bounds.shown) }
-    ensures nodes { IfOk result (λ left. left ≡ Some stop.Nodes → length (ways kept.new.lineage) ≡ scope.entry.bounds.nodes) }
-    ensures followed { IfOk result (λ left. left ≡ None → IsFollowed (O.runs scope.entry.orders.now) (IsShown shown.new.items) (Serves (O.runs scope.entry.orders.now)) (ways kept.new.lineage) (get_or (ways kept.old.lineage) at.reached.number [])) }
-    ensures continued { OnOk result (AreContinued (O.runs scope.entry.orders.now) kept.new) }
-    ensures timed { OnOk result (AreTimed (O.runs scope.entry.orders.now) (O.time_of scope.entry.orders.now) (ways kept.new.lineage) kept.new.links.times.items) }
+    requires shown { AreShownWell (O.runs scope.orders.now) scope.bounds.shown shown.old.items }
+    requires reached { IsText (O.runs scope.orders.now) (ways kept.old.lineage) (texts kept.old.texts) reached }
+    ensures shown { AreShownFurther (O.runs scope.entry.orders.now) scope.entry.bounds.shown shown.old.items shown.new.items }
+    ensures expanded { IfOk result (IsExpanded (O.runs scope.entry.orders.now) (O.has_key scope.entry.orders.now) (O.time_of scope.entry.orders.now) scope.entry.bounds kept.old kept.new shown.new.items reached.number) }
 {
-    let Pending { node, reached } = at;
+    let node = node_at(scope, room, &kept.lineage, &mut kept.nodes, reached.number)?;
     let Expanded {
         successors,
         ended,
@@ -120,7 +104,7 @@ fn expand_node<O: Orders>(
     } = scope.orders.expand(scope.alloc, room, node)?;
     let goes_on = ended.is_empty();
     let time = kept.links.time_at(reached.number);
-    choices.add(time, reached.number, successors.len());
+    kept.choices.add(time, reached.number, successors.len());
     let run = ReachedRun {
         lineage: &kept.lineage,
         texts: &kept.texts,
@@ -161,7 +145,6 @@ fn earliest_open<N: Drop, M: Copy>(kept: &KeptNodes<N, M>, told: Option<u64>, ti
 fn stopped_early<N: Drop, M: Copy>(
     alloc: Global,
     kept: &KeptNodes<N, M>,
-    choices: &ChoiceCounts,
     stopped: Option<Stopped>,
     told: Option<u64>,
     time: u64,
@@ -177,11 +160,11 @@ fn stopped_early<N: Drop, M: Copy>(
         stopped,
         endless: None,
         followed_before: Some(earliest_open(kept, told, time)),
-        widest: widest_way(alloc, &kept.lineage, choices),
+        widest: widest_way(alloc, &kept.lineage, &kept.choices),
     }
 }
 
-/// Searches from the node at the start of the runs on, shows what the runs print and how they end, and counts the nodes that are kept.
+/// Searches from the first node on, shows what the runs print and how they end, and counts the nodes that are kept.
 fn search_from<O: Orders, P: Progress>(
     scope: SearchScope<'_, O>,
     room: &mut O::Room,
@@ -193,54 +176,55 @@ fn search_from<O: Orders, P: Progress>(
     requires room { 0 < scope.bounds.nodes }
     requires none { shown.old.items ≡ [] }
     requires begun { nodes.old ≡ 0 }
-    requires kept { AreKept (O.runs scope.orders.now) (O.has_key scope.orders.now) kept.old }
-    requires continued { AreContinued (O.runs scope.orders.now) kept.old }
-    requires ways { ways kept.old.lineage ≡ [] ∷ [] }
-    requires waits { Any (λ p. p.number ≡ 0) kept.old.pending.items }
-    requires timed { AreTimed (O.runs scope.orders.now) (O.time_of scope.orders.now) (ways kept.old.lineage) kept.old.links.times.items }
-    ensures few { nodes.new ≤ scope.entry.bounds.nodes }
-    ensures few_shown { length shown.new.items ≤ scope.entry.bounds.shown }
-    ensures sound { All (IsOfRun (O.runs scope.entry.orders.now)) shown.new.items }
-    ensures distinct { AllPairs AreDistinct shown.new.items }
-    ensures all { stopped_of result ≡ None → AreAllShown (O.runs scope.entry.orders.now) shown.new.items }
-    ensures nodes { stopped_of result ≡ Some stop.Nodes → nodes.new ≡ scope.entry.bounds.nodes }
-    ensures full { stopped_of result ≡ Some stop.Shown → length shown.new.items ≡ scope.entry.bounds.shown }
-    ensures counted { AreCounted (O.runs scope.entry.orders.now) shown.new.items (stopped_of result) nodes.new }
-    ensures endless { IfOk result (λ outcome. IfSome outcome.endless (λ moves. IsEndless (O.runs scope.entry.orders.now) moves.items)) }
-    ensures before { (stopped_of result ≡ Some stop.Memory) ⊎ AreFollowedBefore (O.runs scope.entry.orders.now) (O.time_of scope.entry.orders.now) shown.new.items (followed_before_of result) }
-    ensures widest { IfOk result (λ outcome. IfSome outcome.widest (λ moves. HasNode (O.runs scope.entry.orders.now) moves.items)) }
+    requires kept { IsBegun (O.runs scope.orders.now) (O.has_key scope.orders.now) (O.time_of scope.orders.now) kept.old }
+    ensures { IsSearched (O.runs scope.entry.orders.now) (O.time_of scope.entry.orders.now) scope.entry.bounds shown.new.items nodes.new result }
 {
     *nodes = kept.lineage.len();
-    let mut choices = ChoiceCounts::new(scope.alloc);
     let mut stopped = None;
     let mut since = None;
     while let Some(reached) = kept.pending.pop() {
-        let number = reached.number;
-        let time = kept.links.time_at(number);
+        let time = kept.links.time_at(reached.number);
         if kept.bytes() > scope.bounds.bytes {
             let why = Some(Stopped::Bytes);
-            return Ok(stopped_early(scope.alloc, kept, &choices, why, since, time));
+            return Ok(stopped_early(scope.alloc, kept, why, since, time));
         }
-        let node = node_at(scope, room, &kept.lineage, &mut kept.nodes, number)?;
-        let at = Pending { node, reached };
-        let left = expand_node(scope, room, kept, shown, &mut choices, at)?;
+        let left = expand_node(scope, room, kept, shown, reached)?;
         let count = kept.lineage.len();
         tell_nodes(progress, *nodes, count, time);
         *nodes = count;
         if is_full(left) {
-            return Ok(stopped_early(scope.alloc, kept, &choices, left, since, time));
+            return Ok(stopped_early(scope.alloc, kept, left, since, time));
         }
         stopped = earlier(stopped, left);
         since = earliest_left(since, left, time);
     }
     let endless = find_endless(scope.alloc, &kept.lineage, &kept.links)?;
-    let widest = widest_way(scope.alloc, &kept.lineage, &choices);
+    let widest = widest_way(scope.alloc, &kept.lineage, &kept.choices);
     Ok(SearchOutcome {
         stopped,
         endless,
         followed_before: since,
         widest,
     })
+}
+
+/// Searches from the node at the start of the runs on, where nothing is kept yet.
+fn search_all<O: Orders, P: Progress>(
+    scope: SearchScope<'_, O>,
+    room: &mut O::Room,
+    kept: &mut KeptNodes<O::Node, O::Move>,
+    shown: &mut Vec<Shown<O::Move, O::End>>,
+    nodes: &mut usize,
+    progress: &P,
+) -> Result<SearchOutcome<O::Move>, AllocError>
+    requires room { 0 < scope.bounds.nodes }
+    requires none { shown.old.items ≡ [] }
+    requires begun { nodes.old ≡ 0 }
+    requires bare { IsBare kept.old }
+    ensures { IsSearched (O.runs scope.entry.orders.now) (O.time_of scope.entry.orders.now) scope.entry.bounds shown.new.items nodes.new result }
+{
+    begin(scope, room, kept)?;
+    search_from(scope, room, kept, shown, nodes, progress)
 }
 
 /// Shows what the runs print and how they end, and counts the nodes that are kept.
@@ -253,21 +237,11 @@ fn search<O: Orders, P: Progress>(
     requires room { 0 < scope.bounds.nodes }
     requires none { shown.old.items ≡ [] }
     requires begun { nodes.old ≡ 0 }
-    ensures few { nodes.new ≤ scope.entry.bounds.nodes }
-    ensures few_shown { length shown.new.items ≤ scope.entry.bounds.shown }
-    ensures sound { All (IsOfRun (O.runs scope.entry.orders.now)) shown.new.items }
-    ensures distinct { AllPairs AreDistinct shown.new.items }
-    ensures all { stopped_of result ≡ None → AreAllShown (O.runs scope.entry.orders.now) shown.new.items }
-    ensures nodes { stopped_of result ≡ Some stop.Nodes → nodes.new ≡ scope.entry.bounds.nodes }
-    ensures full { stopped_of result ≡ Some stop.Shown → length shown.new.items ≡ scope.entry.bounds.shown }
-    ensures counted { AreCounted (O.runs scope.entry.orders.now) shown.new.items (stopped_of result) nodes.new }
-    ensures endless { IfOk result (λ outcome. IfSome outcome.endless (λ moves. IsEndless (O.runs scope.entry.orders.now) moves.items)) }
-    ensures before { (stopped_of result ≡ Some stop.Memory) ⊎ AreFollowedBefore (O.runs scope.entry.orders.now) (O.time_of scope.entry.orders.now) shown.new.items (followed_before_of result) }
-    ensures widest { IfOk result (λ outcome. IfSome outcome.widest (λ moves. HasNode (O.runs scope.entry.orders.now) moves.items)) }
+    ensures { IsSearched (O.runs scope.entry.orders.now) (O.time_of scope.entry.orders.now) scope.entry.bounds shown.new.items nodes.new result }
 {
     let mut room = scope.orders.room(scope.alloc);
-    let mut kept = first(scope, &mut room)?;
-    let outcome = search_from(scope, &mut room, &mut kept, shown, nodes, progress);
+    let mut kept = KeptNodes::new(scope.alloc);
+    let outcome = search_all(scope, &mut room, &mut kept, shown, nodes, progress);
     drop(kept);
     outcome
 }

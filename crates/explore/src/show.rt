@@ -1,9 +1,8 @@
 //! What is shown.
-ghost use Rattle.std.specs.Prelude.{◌≡◌, ◌≤◌, ◌++◌, ◌↔◌, [], false, length, get_or, IsTrue, IfOk};
-ghost use Rattle.std.specs.List.{All, AllPairs};
-ghost use Rattle.sharing.specs.Parts.{Extends};
+ghost use Rattle.std.specs.Prelude.{◌≡◌, ◌++◌, ◌↔◌, [], false, length, get_or, IsTrue, IfOk};
+ghost use Rattle.std.specs.List.{All};
 ghost use Rattle.explore.specs.SearchKept.{HoldsRun};
-ghost use Rattle.explore.specs.Search.{AreDistinct, Differs, IsEndedPath, IsOfRun, IsShown};
+ghost use Rattle.explore.specs.Search.{AreShownFurther, AreShownWell, Differs, IsEndedPath, IsShown};
 ghost use Rattle.explore.specs.Lineage.{ways};
 
 use crate::kept::Reached;
@@ -28,11 +27,18 @@ pub(crate) fn bytes_since<M: Copy, E>(shown: &[Shown<M, E>], since: usize) -> us
 }
 
 /// A run that was reached, and what holds its moves and its text.
-#[derive(Clone, Copy)]
 pub(crate) struct ReachedRun<'a, M> {
     pub(crate) lineage: &'a Lineage<M>,
     pub(crate) texts: &'a TextTable,
     pub(crate) reached: Reached,
+}
+
+impl<M> Copy for ReachedRun<'_, M> {}
+
+impl<M> Clone for ReachedRun<'_, M> {
+    fn clone(&self) -> Result<Self, AllocError> {
+        Ok(*self)
+    }
 }
 
 /// Whether this text and this end are those of what is shown.
@@ -77,14 +83,9 @@ fn show<O: Orders>(
     ended: EndedPath<O::Move, O::End>,
 ) -> Result<bool, AllocError>
     requires run { HoldsRun (O.runs scope.orders.now) run.lineage.now run.texts.now run.reached }
-    requires sound { All (IsOfRun (O.runs scope.orders.now)) shown.old.items }
-    requires distinct { AllPairs AreDistinct shown.old.items }
-    requires few { length shown.old.items ≤ scope.bounds.shown }
+    requires shown { AreShownWell (O.runs scope.orders.now) scope.bounds.shown shown.old.items }
     requires ended { IsEndedPath (O.runs scope.orders.now) (get_or (ways run.lineage.now) run.reached.number []) ended }
-    ensures sound { All (IsOfRun (O.runs scope.entry.orders.now)) shown.new.items }
-    ensures distinct { AllPairs AreDistinct shown.new.items }
-    ensures grows { Extends shown.old.items shown.new.items }
-    ensures few { length shown.new.items ≤ scope.entry.bounds.shown }
+    ensures shown { AreShownFurther (O.runs scope.entry.orders.now) scope.entry.bounds.shown shown.old.items shown.new.items }
     ensures full { IfOk result (λ there. there ≡ false → length shown.new.items ≡ scope.entry.bounds.shown) }
     ensures there { IfOk result (λ there. IsTrue there → IsShown shown.new.items ((O.runs scope.entry.orders.now).text (get_or (ways run.entry.lineage.now) run.entry.reached.number []) ++ ended.printed.items) ended.end) }
 {
@@ -114,14 +115,9 @@ pub(crate) fn show_all<O: Orders>(
     ended: Vec<EndedPath<O::Move, O::End>>,
 ) -> Result<bool, AllocError>
     requires run { HoldsRun (O.runs scope.orders.now) run.lineage.now run.texts.now run.reached }
-    requires sound { All (IsOfRun (O.runs scope.orders.now)) shown.old.items }
-    requires distinct { AllPairs AreDistinct shown.old.items }
-    requires few { length shown.old.items ≤ scope.bounds.shown }
+    requires shown { AreShownWell (O.runs scope.orders.now) scope.bounds.shown shown.old.items }
     requires ended { All (IsEndedPath (O.runs scope.orders.now) (get_or (ways run.lineage.now) run.reached.number [])) ended.items }
-    ensures sound { All (IsOfRun (O.runs scope.entry.orders.now)) shown.new.items }
-    ensures distinct { AllPairs AreDistinct shown.new.items }
-    ensures grows { Extends shown.old.items shown.new.items }
-    ensures few { length shown.new.items ≤ scope.entry.bounds.shown }
+    ensures shown { AreShownFurther (O.runs scope.entry.orders.now) scope.entry.bounds.shown shown.old.items shown.new.items }
     ensures full { IfOk result (λ there. there ≡ false → length shown.new.items ≡ scope.entry.bounds.shown) }
     ensures there { IfOk result (λ all. IsTrue all → All (λ one. IsShown shown.new.items ((O.runs scope.entry.orders.now).text (get_or (ways run.entry.lineage.now) run.entry.reached.number []) ++ one.printed.items) one.end) ended.items) }
 {

@@ -45,3 +45,8 @@ expect-some k (x ∷ xs) t us h = elim (if-is (same_kind x.kind k) (Some (x, xs)
 pub expect-is : (k : Kind) (t : PlainToken) (us : PlainTokens) → t.kind ≡ k → expect k (t ∷ us) ≡ Some (t, us)
 unfolding expect
 expect-is k t us h = rw (same_kind-is t.kind k h)
+
+-- a token of a kind that is seen is the next one
+pub expect_seen : (k : Kind) (ts : PlainTokens) → sees k ts ≡ true → expect k ts ≡ take ts
+unfolding expect
+expect_seen k ts h = rw h

@@ -52,3 +52,7 @@ Reads view stop outcome (Err Syntax) new = outcome ≡ None
 Reads view stop outcome (Err Unsized) new = outcome ≡ None
 Reads view stop outcome (Err Deep) new = stop ≡ Some (length new)
 Reads view stop outcome (Err Memory) new = Unit {0}
+
+-- What a function that only builds ensures: the value, whatever tokens are left, unless memory fails.
+abbrev pub Builds : {A B : Type 0} → (A → B) → B → Result A GrammarFault → Type 0
+Builds view b result = (stop : Option ℕ) (ts : PlainTokens) → Reads view stop (Some (b, ts)) result ts

@@ -1,5 +1,5 @@
 -- Lists of the nodes of a source tree, as the parser gathers them.
-use Rattle.std.specs.Prelude.{List, map, string_bytes}
+use Rattle.std.specs.Prelude.{ℕ, List, map, Bool, true, false, Option, string_bytes}
 use Rattle.std.specs.declared.vec.Vec.{Vec}
 use Rattle.std.specs.declared.string.String.{String}
 use Rattle.std.specs.declared.alloc.Global.{Global}
@@ -7,8 +7,13 @@ use Rattle.model.specs.declared.tree.Change.{Change}
 use Rattle.model.specs.declared.tree.EventExpression as program_event
 use Rattle.model.specs.declared.tree.SourceExpression as program_expression
 use Rattle.model.specs.declared.tree.SourceStatement as program_statement
-use Rattle.model.specs.Syntax.{Text, Expression, SourceStatement}
+use Rattle.model.specs.Syntax.{Text, Expression, SourceStatement, Assign, AssignLater}
 use Rattle.model.specs.SourceTrees.{source_expression_of, source_trigger_of, source_statement_of}
+
+-- A nonblocking assignment, or a blocking one.
+abbrev pub parsed_assign : Bool → Text → Option ℕ → Expression Text → SourceStatement
+parsed_assign true name delay value = AssignLater name delay value
+parsed_assign false name delay value = Assign name delay value
 
 -- An event: which change, and of which name.
 abbrev pub SourceTrigger : Type 0

@@ -3,7 +3,7 @@ use Rattle.std.specs.Prelude.{Bool, ℕ, zero, suc, ◌+◌, List, [], ◌∷◌
 use Rattle.logic4.specs.Vector.{Vector}
 use Rattle.tokens.specs.declared.token.Kind.{Kind}
 use Rattle.tokens.specs.declared.token.Kind.TheVariants as k
-use Rattle.tokens.specs.Tokens.{PlainTokens}
+use Rattle.tokens.specs.Tokens.{PlainToken, PlainTokens}
 use Rattle.model.specs.declared.tree.Task.{Task}
 use Rattle.model.specs.declared.tree.Task.TheVariants.{Display, Strobe}
 use Rattle.model.specs.declared.tree.UnaryOperator.{UnaryOperator}
@@ -31,6 +31,10 @@ if_level level (Some p) = if nat_lt p.0 level then None else Some p
 unfoldable pub continues : ℕ → Kind → Option (ℕ × BinaryOperator)
 continues level kind = if_level level (operator kind)
 
+-- A token of a kind, and the plain decimal behind it.
+abbrev pub parse_number : Kind → Parser ℕ
+parse_number mark ts = parse_and_then (expect mark ts) (λ t us. parse_and_then (expect k.Decimal us) (λ u rest. Some (u.value, rest)))
+
 -- [ decimal ] behind a name.
 unfoldable pub parse_select : Text → Parser (Expression Text)
 parse_select t ts = parse_and_then (take ts) (λ u us. parse_and_then (expect k.Decimal us) (λ v vs. parse_and_then (expect k.CloseSquare vs) (λ w rest. Some (Select t v.value, rest))))
@@ -53,6 +57,10 @@ module _ (inner : ℕ → Parser (Expression Text)) where
   -- An expression in parentheses.
   unfoldable pub parse_parenthesized : Parser (Expression Text)
   parse_parenthesized ts = parse_and_then (expect k.Open ts) (λ t us. parse_and_then (inner 0 us) (λ e vs. parse_and_then (expect k.Close vs) (λ u rest. Some (e, rest))))
+
+  -- An expression, and a token of a kind behind it.
+  unfoldable pub parse_closed : Kind → Parser (Expression Text)
+  parse_closed mark ts = parse_and_then (inner 0 ts) (λ e us. parse_and_then (expect mark us) (λ t rest. Some (e, rest)))
 
   -- Expressions with a comma before each up to a closing bracket, behind those found.
   unfoldable pub parse_list : Kind → ℕ → List (Expression Text) → Parser (List (Expression Text))
@@ -153,6 +161,10 @@ parse_events (suc m) found ts = parse_and_then (parse_event ts) (λ e us.
 -- @ ( events ).
 unfoldable pub parse_event_control : ℕ → Parser (List SourceTrigger)
 parse_event_control budget ts = parse_and_then (take ts) (λ t us. parse_and_then (expect k.Open us) (λ u. parse_events budget []))
+
+-- The name of a task, ( and a string.
+abbrev pub parse_format : Parser PlainToken
+parse_format ts = parse_and_then (take ts) (λ t us. parse_and_then (expect k.Open us) (λ u. expect k.Text))
 
 -- $display ( string arguments ) ; or $strobe ( string arguments ) ;.
 unfoldable pub parse_print : Task → ℕ → Parser SourceStatement

@@ -1,7 +1,7 @@
 //! Expressions, by precedence climbing.
 
-ghost use Rattle.std.specs.Prelude.{◌≡◌, ◌≤◌, IfOk, IfSome};
-ghost use Rattle.grammar.specs.Cursor.{left_of, Reads};
+ghost use Rattle.std.specs.Prelude.{◌≡◌, ◌≤◌, true, IfOk, IfSome};
+ghost use Rattle.grammar.specs.Cursor.{left_of, sees, Reads};
 ghost use Rattle.model.specs.SourceTrees.{source_expression_of};
 ghost use Rattle.grammar.specs.Nodes.{expressions_view};
 ghost use Rattle.grammar.specs.Grammar as grammar;
@@ -79,15 +79,24 @@ fn continues(level: u8, kind: Kind) -> Option<(u8, BinaryOperator)>
     Some((found, op))
 }
 
+/// Reads a token of this kind, and the plain decimal behind it.
+pub fn parse_number(rules: Rules, tokens: &mut Cursor<'_, '_>, mark: Kind) -> Read<u64>
+    ensures { Reads (λ n. n) rules.stop (spec.parse_number mark (left_of tokens.old)) result (left_of tokens.new) }
+{
+    tokens.expect(rules.stop, mark)?;
+    let number = tokens.expect(rules.stop, Kind::Decimal)?;
+    Ok(number.value())
+}
+
 /// Reads `[ decimal ]` after a name.
-#[tactic(auto, unfolding(crate::specs::Reading::parse_select))]
+#[tactic(auto, using(crate::proofs::Steps::expect_seen), unfolding(crate::specs::Reading::parse_select))]
 fn parse_select(rules: Rules, tokens: &mut Cursor<'_, '_>, name: &str) -> Read<SourceExpression>
+    requires { sees Kind.OpenSquare (left_of tokens.old) ≡ true }
     ensures { Reads source_expression_of rules.stop (spec.parse_select name.now (left_of tokens.old)) result (left_of tokens.new) }
 {
-    tokens.take(rules.stop)?;
-    let index = tokens.expect(rules.stop, Kind::Decimal)?;
+    let index = parse_number(rules, tokens, Kind::OpenSquare)?;
     tokens.expect(rules.stop, Kind::CloseSquare)?;
-    Ok(select_of(rules.alloc, name, index.value())?)
+    select_of(rules.alloc, name, index)
 }
 
 /// Reads a name, and `[ decimal ]` where it follows.
@@ -99,7 +108,7 @@ fn parse_name(rules: Rules, tokens: &mut Cursor<'_, '_>) -> Read<SourceExpressio
     if tokens.sees(Kind::OpenSquare) {
         return parse_select(rules, tokens, token.text);
     }
-    Ok(name_of(rules.alloc, token.text)?)
+    name_of(rules.alloc, token.text)
 }
 
 /// Reads a sized literal.
@@ -116,7 +125,7 @@ fn parse_literal(rules: Rules, tokens: &mut Cursor<'_, '_>) -> Read<SourceExpres
 
 /// Reads `( expression )`.
 #[cycle(expression)]
-#[tactic(auto, unfolding(crate::specs::Reading::parse_parenthesized))]
+#[tactic(auto, unfolding(crate::specs::Reading::parse_parenthesized, crate::specs::Reading::parse_closed))]
 pub fn parse_parenthesized(
     rules: Rules,
     tokens: &mut Cursor<'_, '_>,
@@ -125,8 +134,22 @@ pub fn parse_parenthesized(
     ensures { Reads source_expression_of rules.stop (spec.parse_parenthesized (spec.parse_expression budget) (left_of tokens.old)) result (left_of tokens.new) }
 {
     tokens.expect(rules.stop, Kind::Open)?;
+    parse_closed(rules, tokens, budget, Kind::Close)
+}
+
+/// Reads an expression, and the token behind it, which is of this kind.
+#[cycle(expression)]
+#[tactic(auto, unfolding(crate::specs::Reading::parse_closed))]
+pub fn parse_closed(
+    rules: Rules,
+    tokens: &mut Cursor<'_, '_>,
+    budget: usize,
+    mark: Kind,
+) -> Read<SourceExpression>
+    ensures { Reads source_expression_of rules.stop (spec.parse_closed (spec.parse_expression budget) mark (left_of tokens.old)) result (left_of tokens.new) }
+{
     let inner = parse_expression(rules, tokens, budget, 0)?;
-    tokens.expect(rules.stop, Kind::Close)?;
+    tokens.expect(rules.stop, mark)?;
     Ok(inner)
 }
 
@@ -138,14 +161,14 @@ pub fn parse_list(
     tokens: &mut Cursor<'_, '_>,
     budget: usize,
     bracket: Kind,
-    mut found: Vec<SourceExpression>,
-) -> Read<Vec<SourceExpression>>
-    ensures { Reads expressions_view rules.stop (spec.parse_list (spec.parse_expression budget) bracket budget (expressions_view found) (left_of tokens.old)) result (left_of tokens.new) }
+    found: &mut Vec<SourceExpression>,
+) -> Read<()>
+    ensures { Reads (λ _. expressions_view found.new) rules.stop (spec.parse_list (spec.parse_expression budget) bracket budget (expressions_view found.old) (left_of tokens.old)) result (left_of tokens.new) }
 {
     for _turn in 0..budget {
         if !tokens.sees(Kind::Comma) {
             tokens.expect(rules.stop, bracket)?;
-            return Ok(found);
+            return Ok(());
         }
         tokens.take(rules.stop)?;
         let part = parse_expression(rules, tokens, budget, 0)?;
@@ -162,9 +185,9 @@ fn parse_concat(rules: Rules, tokens: &mut Cursor<'_, '_>, budget: usize) -> Rea
 {
     tokens.take(rules.stop)?;
     let first = parse_expression(rules, tokens, budget, 0)?;
-    let found = Vec::new(rules.alloc);
-    let others = parse_list(rules, tokens, budget, Kind::CloseCurly, found)?;
-    Ok(concat_of(rules.alloc, first, others)?)
+    let mut others = Vec::new(rules.alloc);
+    parse_list(rules, tokens, budget, Kind::CloseCurly, &mut others)?;
+    concat_of(rules.alloc, first, others)
 }
 
 /// Reads an operand that no unary operator stands before. A number without a size is refused as such.
@@ -194,7 +217,7 @@ fn parse_operand(rules: Rules, tokens: &mut Cursor<'_, '_>, budget: usize) -> Re
         Some(op) => {
             tokens.take(rules.stop)?;
             let inner = parse_primary(rules, tokens, budget)?;
-            Ok(unary_of(rules.alloc, op, inner)?)
+            unary_of(rules.alloc, op, inner)
         }
     }
 }
@@ -224,7 +247,7 @@ fn parse_operators(
 
 /// Reads what follows the test of a choice.
 #[cycle(expression)]
-#[tactic(auto, unfolding(crate::specs::Reading::parse_conditional))]
+#[tactic(auto, unfolding(crate::specs::Reading::parse_conditional, crate::specs::Reading::parse_closed))]
 fn parse_conditional(
     rules: Rules,
     tokens: &mut Cursor<'_, '_>,
@@ -234,10 +257,9 @@ fn parse_conditional(
     ensures { Reads source_expression_of rules.stop (spec.parse_conditional (spec.parse_expression budget) (source_expression_of test) (left_of tokens.old)) result (left_of tokens.new) }
 {
     tokens.take(rules.stop)?;
-    let yes = parse_expression(rules, tokens, budget, 0)?;
-    tokens.expect(rules.stop, Kind::Colon)?;
+    let yes = parse_closed(rules, tokens, budget, Kind::Colon)?;
     let no = parse_expression(rules, tokens, budget, 0)?;
-    Ok(conditional_of(rules.alloc, test, yes, no)?)
+    conditional_of(rules.alloc, test, yes, no)
 }
 
 /// An expression whose binary operators are of this level and tighter; at level 0 a choice too.

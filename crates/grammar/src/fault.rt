@@ -2,7 +2,7 @@
 
 use std::alloc::{AllocError, AllocFailed};
 
-#[derive(Clone, Copy, PartialEq, Eq)]
+#[derive(Clone, Copy)]
 pub enum GrammarFault {
     /// The next token fits nowhere.
     Syntax,

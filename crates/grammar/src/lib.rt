@@ -19,4 +19,4 @@ mod strings;
 pub use cursor::Cursor;
 pub use expression::Rules;
 pub use fault::GrammarFault;
-pub use module::parse_source;
+pub use module::{discard, parse_source};

@@ -1,65 +1,64 @@
 //! Statements.
 
-ghost use Rattle.std.specs.Prelude.{◌≡◌, ◌∷◌, ◌++◌, [], map, IfOk};
-ghost use Rattle.grammar.specs.Cursor.{left_of, Reads};
+ghost use Rattle.std.specs.Prelude.{◌≡◌, ◌∷◌, ◌++◌, [], map};
+ghost use Rattle.tokens.specs.Tokens.{plain_token};
+ghost use Rattle.grammar.specs.Cursor.{left_of, parse_and_then, expect, Reads, Builds};
 ghost use Rattle.model.specs.SourceTrees.{source_expression_of, source_trigger_of, source_statement_of};
 ghost use Rattle.grammar.specs.Nodes.{triggers_view, statements_view};
 ghost use Rattle.grammar.specs.Grammar as grammar;
 ghost use Rattle.grammar.specs.Reading as spec;
 
 use crate::build::{
-    assign_later_of, assign_of, await_of, block_of, delay_of, if_else_of, if_of, print_of, while_of,
+    assignment_of, await_of, block_of, delay_of, if_else_of, if_of, print_of, while_of,
 };
 use crate::cursor::Cursor;
-use crate::expression::{Rules, parse_expression, parse_list, parse_parenthesized};
+use crate::expression::{Rules, parse_closed, parse_list, parse_number, parse_parenthesized};
 use crate::fault::{GrammarFault, Read};
-use crate::strings::string_text;
 use model::tree::{Change, EventExpression, SourceExpression, SourceStatement, Task};
-use std::alloc::{AllocError, Global};
-use tokens::token::Kind;
+use std::alloc::Global;
+use tokens::token::{Kind, Token};
 
 /// Reads `# decimal` where it comes next.
-#[tactic(auto, unfolding(crate::specs::Reading::parse_delay))]
+#[tactic(auto, unfolding(crate::specs::Reading::parse_delay, crate::specs::Cursor::expect))]
 fn parse_delay(rules: Rules, tokens: &mut Cursor<'_, '_>) -> Read<Option<u64>>
     ensures { Reads (λ d. d) rules.stop (spec.parse_delay (left_of tokens.old)) result (left_of tokens.new) }
 {
     if !tokens.sees(Kind::Hash) {
         return Ok(None);
     }
-    tokens.take(rules.stop)?;
-    let found = tokens.expect(rules.stop, Kind::Decimal)?;
-    Ok(Some(found.value()))
+    let found = parse_number(rules, tokens, Kind::Hash)?;
+    Ok(Some(found))
 }
 
-/// Reads what stands right of the sign of an assignment, and `;`.
-#[tactic(auto, unfolding(crate::specs::Reading::parse_value))]
+/// Reads the sign of an assignment, what stands right of it, and `;`.
+#[tactic(auto, unfolding(crate::specs::Reading::parse_value, crate::specs::Reading::parse_closed))]
 fn parse_value(
     rules: Rules,
     tokens: &mut Cursor<'_, '_>,
     budget: usize,
+    sign: Kind,
 ) -> Read<(Option<u64>, SourceExpression)>
-    ensures { Reads (λ p. (p.0, source_expression_of p.1)) rules.stop (spec.parse_value budget (left_of tokens.old)) result (left_of tokens.new) }
+    ensures { Reads (λ p. (p.0, source_expression_of p.1)) rules.stop
+        (parse_and_then (expect sign (left_of tokens.old)) (λ _. spec.parse_value budget)) result (left_of tokens.new) }
 {
+    tokens.expect(rules.stop, sign)?;
     let found = parse_delay(rules, tokens)?;
-    let e = parse_expression(rules, tokens, budget, 0)?;
-    tokens.expect(rules.stop, Kind::Semicolon)?;
+    let e = parse_closed(rules, tokens, budget, Kind::Semicolon)?;
     Ok((found, e))
 }
 
 /// Reads an assignment.
-#[tactic(auto, unfolding(crate::specs::Reading::parse_assign))]
+#[tactic(auto, unfolding(crate::specs::Reading::parse_assign, crate::specs::Cursor::expect))]
 fn parse_assign(rules: Rules, tokens: &mut Cursor<'_, '_>, budget: usize) -> Read<SourceStatement>
     ensures { Reads source_statement_of rules.stop (spec.parse_assign budget (left_of tokens.old)) result (left_of tokens.new) }
 {
     let name = tokens.take(rules.stop)?;
     if tokens.sees(Kind::AtMost) {
-        tokens.take(rules.stop)?;
-        let found = parse_value(rules, tokens, budget)?;
-        return Ok(assign_later_of(String::from_str(rules.alloc, name.text)?, found.0, found.1));
+        let found = parse_value(rules, tokens, budget, Kind::AtMost)?;
+        return assignment_of(rules.alloc, true, name.text, found.0, found.1);
     }
-    tokens.expect(rules.stop, Kind::Assign)?;
-    let found = parse_value(rules, tokens, budget)?;
-    Ok(assign_of(String::from_str(rules.alloc, name.text)?, found.0, found.1))
+    let found = parse_value(rules, tokens, budget, Kind::Assign)?;
+    assignment_of(rules.alloc, false, name.text, found.0, found.1)
 }
 
 /// The edge that a word of an event names, if it names one.
@@ -84,8 +83,8 @@ fn separates(kind: Kind) -> bool
 }
 
 /// An event expression, with a copy of the register's name. Fails where memory is refused.
-fn event_of(alloc: Global, change: Change, name: &str) -> Result<EventExpression, AllocError>
-    ensures { IfOk result (λ made. source_trigger_of made ≡ (change, name.now)) }
+fn event_of(alloc: Global, change: Change, name: &str) -> Read<EventExpression>
+    ensures { Builds source_trigger_of (change, name.now) result }
 {
     Ok(EventExpression {
         change,
@@ -101,12 +100,12 @@ fn parse_event(rules: Rules, tokens: &mut Cursor<'_, '_>) -> Read<EventExpressio
     match change_of(tokens.kind()) {
         None => {
             let name = tokens.expect(rules.stop, Kind::Name)?;
-            Ok(event_of(rules.alloc, Change::Any, name.text)?)
+            event_of(rules.alloc, Change::Any, name.text)
         }
         Some(change) => {
             tokens.take(rules.stop)?;
             let name = tokens.expect(rules.stop, Kind::Name)?;
-            Ok(event_of(rules.alloc, change, name.text)?)
+            event_of(rules.alloc, change, name.text)
         }
     }
 }
@@ -147,6 +146,15 @@ fn parse_event_control(
     parse_events(rules, tokens, budget)
 }
 
+/// Reads the name of a task that prints, `(` and a string, which it answers.
+fn parse_format<'t, 'a>(rules: Rules, tokens: &mut Cursor<'t, 'a>) -> Read<&'t Token<'a>>
+    ensures { Reads (λ t. plain_token t.now) rules.stop (spec.parse_format (left_of tokens.old)) result (left_of tokens.new) }
+{
+    tokens.take(rules.stop)?;
+    tokens.expect(rules.stop, Kind::Open)?;
+    tokens.expect(rules.stop, Kind::Text)
+}
+
 /// Reads a `$display` or a `$strobe`.
 #[tactic(auto, unfolding(crate::specs::Reading::parse_print))]
 fn parse_print(
@@ -158,16 +166,11 @@ fn parse_print(
     ensures { Reads source_statement_of rules.stop
         (spec.parse_print task budget (left_of tokens.old)) result (left_of tokens.new) }
 {
-    tokens.take(rules.stop)?;
-    tokens.expect(rules.stop, Kind::Open)?;
-    let format = tokens.expect(rules.stop, Kind::Text)?;
-    let found = parse_list(rules, tokens, budget, Kind::Close, Vec::new(rules.alloc))?;
+    let format = parse_format(rules, tokens)?;
+    let mut found = Vec::new(rules.alloc);
+    parse_list(rules, tokens, budget, Kind::Close, &mut found)?;
     tokens.expect(rules.stop, Kind::Semicolon)?;
-    Ok(print_of(
-        task,
-        string_text(rules.alloc, format.text.as_bytes())?,
-        found,
-    ))
+    print_of(rules.alloc, task, format.text, found)
 }
 
 /// Reads `$finish ;`.
@@ -189,7 +192,7 @@ fn parse_delayed(rules: Rules, tokens: &mut Cursor<'_, '_>, budget: usize) -> Re
     tokens.take(rules.stop)?;
     let found = tokens.expect(rules.stop, Kind::Decimal)?;
     let body = parse_statement(rules, tokens, budget)?;
-    Ok(delay_of(rules.alloc, found.value(), body)?)
+    delay_of(rules.alloc, found.value(), body)
 }
 
 /// Reads `@ ( events )` and a statement.
@@ -200,7 +203,7 @@ fn parse_awaited(rules: Rules, tokens: &mut Cursor<'_, '_>, budget: usize) -> Re
 {
     let found = parse_event_control(rules, tokens, budget)?;
     let body = parse_statement(rules, tokens, budget)?;
-    Ok(await_of(rules.alloc, found, body)?)
+    await_of(rules.alloc, found, body)
 }
 
 /// Reads a block, and answers its statements.

@@ -1,10 +1,14 @@
 //! The loose runs of a design, as a search follows them and tells of them.
-ghost use Rattle.std.specs.Prelude.{◌≡◌, [], IfOk};
+ghost use Rattle.std.specs.Prelude.{◌≡◌, List, [], IfOk};
 ghost use Rattle.model.specs.States.{start};
 ghost use Rattle.regions.specs.Machine.{state_at};
 ghost use Rattle.design.specs.Compiled.{design_of};
 ghost use Rattle.explore.specs.Search.{IsReached};
+ghost use Rattle.loose.specs.declared.transition.LooseTransition.{LooseTransition as Transition};
 ghost use Rattle.loose.specs.Classes.{class_in};
+ghost use Rattle.wavetexts.specs.Reading.{text_with};
+ghost use Rattle.lawful.specs.ArrangedNodes.{tail_at};
+ghost use Rattle.lawful.specs.Told.{AreWaysFrom};
 ghost use Rattle.lawful.specs.LooseNodes.{AreBounded, IsExpandedAt, searched_runs};
 
 use crate::again::weight;
@@ -85,6 +89,23 @@ impl<'a, 'd, T: RunTelling> LooseRuns<'a, 'd, T> {
         };
         expand(scope, &self.analyzed_design, room, node.machine)
     }
+
+    // Follows these ways, and tells of them, where this of the node's text isn't in order for good, and this is told of its state.
+    fn told_ways(
+        &self,
+        alloc: Global,
+        room: &mut SearchRoom,
+        tail: &TextTail,
+        seen: &[u8],
+        node: LooseNode<'d>,
+    ) -> Result<Expanded<LooseNode<'d>, LooseTransition, T::End>, AllocError>
+        requires { IsReached (T.runs self.now.telling.now self.now.analyzed_design (class_in self.now.classes.items) self.now.limits) node }
+        ensures { IfOk result (λ told. (run : List Transition) → (T.runs self.now.telling.now self.now.analyzed_design (class_in self.now.classes.items) self.now.limits).Stands node.entry run → text_with [] tail.now ≡ tail_at node.entry → seen.now ≡ T.sight self.now.telling.now (state_at node.entry.machine.value) → AreWaysFrom (T.runs self.now.telling.now self.now.analyzed_design (class_in self.now.classes.items) self.now.limits) run told) }
+    {
+        let ways = self.ways(alloc, room, node)?;
+        let told = self.telling.tell(alloc, tail, seen, ways)?;
+        Ok(told)
+    }
 }
 
 impl<'a, 'd, T: RunTelling> Orders for LooseRuns<'a, 'd, T> {
@@ -125,9 +146,7 @@ impl<'a, 'd, T: RunTelling> Orders for LooseRuns<'a, 'd, T> {
     ) -> Result<Expanded<LooseNode<'d>, LooseTransition, T::End>, AllocError> {
         let seen = self.telling.see(alloc, &node.machine)?;
         let tail = node.tail.copied(alloc)?;
-        let ways = self.ways(alloc, room, node)?;
-        let told = self.telling.tell(alloc, &tail, &seen, ways)?;
-        Ok(told)
+        self.told_ways(alloc, room, &tail, &seen, node)
     }
 
     fn key(

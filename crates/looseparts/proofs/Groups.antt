@@ -1,6 +1,7 @@
 -- What is found of groups of actors stands for all.
-use Rattle.std.proofs.Common.{◌≡◌, ◌≢◌, ◌⊎◌, ℕ, ◌+◌, ◌<◌, Bool, true, false, List, [], ◌∷◌, ◌++◌, map, take, length, get_or, inl, inr, refl, sym, ap, subst, ◌∙◌}
+use Rattle.std.proofs.Common.{◌≡◌, ◌≢◌, ◌⊎◌, ℕ, ◌+◌, ◌<◌, Bool, true, false, List, [], ◌∷◌, ◌++◌, map, take, length, get_or, inl, inr, Result, Ok, Err, refl, sym, ap, subst, ◌∙◌}
 use Rattle.std.specs.List.{All, Contains}
+use Rattle.std.specs.Prelude.{IfOk}
 use Rattle.std.specs.Global.{Vec}
 use Rattle.std.proofs.lemmas.List.{map-append}
 use Rattle.std.proofs.lemmas.List.Elements.{All-nil, All-more, All-weaker, All-contains, Contains-append_left, Contains-append_right}
@@ -225,3 +226,8 @@ pub nobody_long : (class : ℕ → ℕ) (code : Compiled) (s : State) (group : L
 nobody_long class code s group found is among =
     nobody_is_long class (design_of code) s (ways_in found.ways.items) (ways_in found.ends.items) found.notes.items is.stand
     (λ a waits. All-contains (λ a. concern found.notes.items a ≡ true) group a is.all (among a waits))
+
+-- what follows from what holds where all was done, holds there too
+pub if_all : {E : Type 0} (r : Result Bool E) (P Q : Type 0) → (P → Q) → IfOk r (λ all. all ≡ true → P) → IfOk r (λ all. all ≡ true → Q)
+if_all (Ok all) P Q f h = λ on. f (h on)
+if_all (Err e) P Q f h = tt

@@ -4,5 +4,6 @@ pub mod FoundWays
 pub mod FoundParts
 pub mod FoundGroups
 pub mod ActorSteps
+pub mod FirstSteps
 pub mod EndingCover
 pub mod GoneWays

@@ -7,14 +7,18 @@ ghost use Rattle.regions.specs.Machine.{state_at};
 ghost use Rattle.looseparts.specs.declared.found.FoundPart.{FoundPart as PartView};
 ghost use Rattle.looseparts.specs.FoundWays.{ways_in};
 ghost use Rattle.looseparts.specs.FoundGroups.{FoundStandsForAll, PartsStandTogether, IsFollowedBy, IsFoundFor, IsPart};
+ghost use Rattle.looseparts.specs.FoundParts.{AreAdded, IsPutBehind};
+ghost use Rattle.looseparts.specs.FirstSteps.{IsFirstStep};
 
 use crate::acting::{copy_of, do_concern_all, is_closed, take_step, waiting_of};
 use crate::found::{FoundPart, PartFindings, are_all_apart, move_note, with_behind};
 use crate::repeats::leave_out_repeats;
 use crate::room::PartsRoom;
+use certificates::note::StepNote;
 use loose::transition::LooseTransition;
 use regions::Machine;
 use std::alloc::{AllocError, Global};
+use std::mem;
 
 // Takes out a part that isn't apart from what was found, where there is one.
 fn take_meeting(parts: &mut Vec<FoundPart>, found: &PartFindings) -> Option<FoundPart>
@@ -40,6 +44,57 @@ fn put_together(alloc: Global, parts: Vec<FoundPart>) -> Result<Option<PartFindi
     Ok(Some(all))
 }
 
+/// A first step: the machine that took it, who waits behind it of those whom it concerns, and its note alone.
+#[derive(Drop)]
+pub(crate) struct FirstStep<'d> {
+    machine: Box<Machine<'d>>,
+    next: Vec<LooseTransition>,
+    notes: Vec<StepNote>,
+}
+
+// The step of an actor, which a copy of a machine takes, with what waits behind it of a group and of those whom it woke. None where the
+// actor takes none, or no more steps may be taken.
+fn first_step<'d>(
+    room: &mut PartsRoom,
+    classes: &[u32],
+    machine: &Machine<'d>,
+    group: &[LooseTransition],
+    actor: LooseTransition,
+) -> Result<Option<FirstStep<'d>>, AllocError>
+    requires { IsInOrder (state_at machine.now) }
+    ensures { IfOk result (λ found. IfSome found (IsFirstStep (class_in classes.now) machine.now group.now actor)) }
+{
+    let mut copy = copy_of(room.alloc, machine)?;
+    if !take_step(room, classes, &mut copy, actor)? {
+        return Ok(None);
+    }
+    let next = waiting_of(room.alloc, &copy, classes, group, &room.note)?;
+    let mut notes = Vec::new(room.alloc);
+    move_note(room.alloc, &mut notes, &mut room.note)?;
+    Ok(Some(FirstStep {
+        machine: copy,
+        next,
+        notes,
+    }))
+}
+
+// What was found behind the first step of an actor, with that step before it.
+fn with_step(
+    alloc: Global,
+    actor: LooseTransition,
+    found: PartFindings,
+    step: FirstStep<'_>,
+) -> Result<PartFindings, AllocError>
+    ensures { IfOk result (IsPutBehind actor step.entry.notes.items found) }
+{
+    let mut found = found;
+    let mut step = step;
+    let put = found.put_behind(alloc, actor, &mut step.notes);
+    drop(step);
+    put?;
+    Ok(found)
+}
+
 // Follows an actor of a group first: its step, and then what is left of the group, with those whom the step woke.
 #[cycle(find)]
 fn follow_one(
@@ -53,23 +108,56 @@ fn follow_one(
     requires { IsInOrder (state_at machine.now) }
     ensures { IfOk result (λ found. IfSome found (IsFollowedBy (class_in classes.now) machine.now.code (state_at machine.now) group.now actor)) }
 {
-    let mut copy = copy_of(room.alloc, machine)?;
-    if !take_step(room, classes, &mut copy, actor)? {
-        return Ok(None);
-    }
-    let next = waiting_of(room.alloc, &copy, classes, group, &room.note)?;
-    let mut notes = Vec::new(room.alloc);
-    move_note(room.alloc, &mut notes, &mut room.note)?;
-    match explore(room, classes, &copy, depth, &next)? {
-        Some(mut found) => {
-            found.put_behind(room.alloc, actor, &mut notes)?;
+    let step = match first_step(room, classes, machine, group, actor)? {
+        Some(step) => step,
+        None => return Ok(None),
+    };
+    match explore(room, classes, &step.machine, depth, &step.next)? {
+        Some(behind) => {
+            let found = with_step(room.alloc, actor, behind, step)?;
             Ok(Some(found))
         }
         None => Ok(None),
     }
 }
 
-// Follows each actor of a group first.
+// Adds what was found where another actor steps first.
+fn add_next(found: &mut PartFindings, next: PartFindings) -> Result<(), AllocError>
+    ensures { OnOk result (AreAdded found.old next found.new) }
+{
+    let mut next = next;
+    let added = found.add_all(&mut next);
+    drop(next);
+    added
+}
+
+// Follows each actor of a group first, and adds what is found then. Answers whether that is all.
+#[cycle(find)]
+fn follow_each(
+    room: &mut PartsRoom,
+    classes: &[u32],
+    machine: &Machine<'_>,
+    group: &[LooseTransition],
+    depth: u32,
+    found: &mut PartFindings,
+) -> Result<bool, AllocError>
+    requires order { IsInOrder (state_at machine.now) }
+    requires going { machine.now.core.finished ≡ false }
+    ensures { IfOk result (λ all. all ≡ true → IsFoundFor (class_in classes.now) machine.now.code (state_at machine.now) group.now found.new) }
+{
+    if group.is_empty() {
+        return Ok(false);
+    }
+    for actor in group {
+        match follow_one(room, classes, machine, depth, group, *actor)? {
+            Some(next) => add_next(found, next)?,
+            None => return Ok(false),
+        }
+    }
+    is_closed(room.alloc, machine, classes, group, &found.notes)
+}
+
+// Finds what a group does where each of its actors is followed first.
 #[cycle(find)]
 fn follow(
     room: &mut PartsRoom,
@@ -82,20 +170,11 @@ fn follow(
     requires going { machine.now.core.finished ≡ false }
     ensures { IfOk result (λ found. IfSome found (IsFoundFor (class_in classes.now) machine.now.code (state_at machine.now) group.now)) }
 {
-    if group.is_empty() {
-        return Ok(None);
-    }
     let mut found = PartFindings::new(room.alloc);
-    for actor in group {
-        match follow_one(room, classes, machine, depth, group, *actor)? {
-            Some(mut next) => found.add_all(&mut next)?,
-            None => return Ok(None),
-        }
+    if follow_each(room, classes, machine, group, depth, &mut found)? {
+        return Ok(Some(found));
     }
-    if !is_closed(room.alloc, machine, classes, group, &found.notes)? {
-        return Ok(None);
-    }
-    Ok(Some(found))
+    Ok(None)
 }
 
 // The part of some actors, of which this was found. Where more than one of them may be first, of ways that come to the same one is kept.
@@ -117,8 +196,35 @@ fn part_with(
     Ok(FoundPart { actors, found })
 }
 
-// The part of an actor: he alone, or he with those of the parts so far from which he isn't apart. These are taken out. Those who were there
-// before stay first, so that the way that is kept of several takes events as they wait, as walks do.
+// The part of some actors, of which this was found, where it is apart from the parts so far. Else one of these from which it isn't is taken
+// out, and its actors are put before the others. Those who were there before stay first, so that the way that is kept of several takes events
+// as they wait, as walks do.
+fn part_apart(
+    room: &mut PartsRoom,
+    classes: &[u32],
+    machine: &Machine<'_>,
+    parts: &mut Vec<FoundPart>,
+    actors: &mut Vec<LooseTransition>,
+    found: PartFindings,
+) -> Result<Option<FoundPart>, AllocError>
+    requires { IsInOrder (state_at machine.now) }
+    ensures parts { (part : PartView) → Contains parts.new.items part → Contains parts.old.items part }
+    ensures part { IfOk result (λ part. IfSome part (λ part. FoundStandsForAll (class_in classes.now) machine.now.code (state_at machine.now) found → IsPart (class_in classes.now) machine.now.code (state_at machine.now) part)) }
+{
+    match take_meeting(parts, &found) {
+        Some(other) => {
+            *actors = with_behind(room.alloc, &other.actors, actors)?;
+            Ok(None)
+        }
+        None => {
+            let own = mem::replace(actors, Vec::new(room.alloc));
+            let part = part_with(room, classes, machine, own, found)?;
+            Ok(Some(part))
+        }
+    }
+}
+
+// The part of an actor: he alone, or he with those of the parts so far from which he isn't apart. These are taken out.
 #[cycle(find)]
 fn part_of(
     room: &mut PartsRoom,
@@ -141,12 +247,9 @@ fn part_of(
             Some(found) => found,
             None => return Ok(None),
         };
-        match take_meeting(parts, &found) {
-            Some(other) => actors = with_behind(room.alloc, &other.actors, &actors)?,
-            None => {
-                let part = part_with(room, classes, machine, actors, found)?;
-                return Ok(Some(part));
-            }
+        match part_apart(room, classes, machine, parts, &mut actors, found)? {
+            Some(part) => return Ok(Some(part)),
+            None => {}
         }
     }
     Ok(None)

@@ -1,5 +1,5 @@
 -- A walk goes on by a way that stands for all, or goes back to its checkpoint and on by its moves since.
-use Rattle.std.proofs.Common.{◌≡◌, ◌≤◌, ℕ, Bool, true, List, [], ◌++◌, Option, Some, None, Result, Ok, Err, refl, sym, ap, subst, ◌∙◌, append_assoc, arith, length-append}
+use Rattle.std.proofs.Common.{◌≡◌, ◌≤◌, ℕ, Bool, true, List, [], ◌++◌, Option, Some, None, Result, Ok, Err, Vec, Global, refl, sym, ap, subst, ◌∙◌, append_assoc, arith, length-append}
 use Rattle.std.specs.Prelude.{IfSome, IfOk, OnOk, IsOk}
 use Rattle.model.specs.declared.end.Limits.{Limits}
 use Rattle.model.specs.States.{State}
@@ -33,6 +33,11 @@ all_ok (Err e) P Q f h = tt
 pub ok_gives : {X E : Type 0} (r : Result X E) (P : Type 0) → IsOk r → OnOk r P → P
 ok_gives (Ok x) P ok h = h
 ok_gives (Err e) P ok h = cc
+
+-- what holds of all moves holds of those that were told
+pub moves_told : {E : Type 0} (r : Result (Vec LooseTransition Global) E) (all : List LooseTransition) (Has : List LooseTransition → Type 0) → IfOk r (λ moves. moves.items ≡ all) → Has all → IfOk r (λ moves. Has moves.items)
+moves_told (Ok moves) all Has same has = subst Has (sym same) has
+moves_told (Err e) all Has same has = tt
 
 -- what was found is there
 pub found_there : {V : Type 0} (o : Option V) (v : V) (Has : V → Type 0) → o ≡ Some v → IfSome o Has → Has v

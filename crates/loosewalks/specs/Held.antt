@@ -132,6 +132,13 @@ pub record HasHeld (class : ℕ → ℕ) (limits : Limits) (old : MachineView) (
   pub asleep : SleepThroughNotes old.code network held cone (state_at old).store (state_at old).time notes sleepers
   pub passed : HasPassedBy class limits old moves new
 
+-- From wherever processes may be held from such a start, and others took steps with these notes to where a machine stood, all that was active
+-- there was taken to where the machine stands.
+abbrev pub HasTakenHeld : (ℕ → ℕ) → Network → List ℕ → HeldStart → MachineView → List NoteView → List LooseTransition → MachineView → List LooseTransition → Type 0
+HasTakenHeld class network held start mid notes first new moves =
+    (limits : Limits) (old : MachineView) → IsHeldStart old network held start → MayBeHeld old.code (state_at old) network held → mid.code ≡ old.code
+    → HasTakenOthers class limits (held ++ sleeping start.sleepers.items) old notes first mid → HasHeld class limits old network held moves new
+
 -- a machine did so, and what is held settles from where it stood to where it stands, if it is the same time
 pub record HasHeldUntilSettled (class : ℕ → ℕ) (limits : Limits) (old : MachineView) (network : Network) (held : List ℕ) (moves : List LooseTransition) (new : MachineView) : Type 0 where
   pub through : HasHeld class limits old network held moves new

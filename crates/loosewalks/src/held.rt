@@ -7,7 +7,7 @@ ghost use Rattle.model.specs.Turns.{contains};
 ghost use Rattle.model.specs.declared.end.Limits.{Limits};
 ghost use Rattle.combinational.specs.Found.{IsNetworkOf};
 ghost use Rattle.passing.specs.SleepThroughNotes.{SleepThroughNotes};
-ghost use Rattle.loosewalks.specs.Held.{HasAddedHeldNote, HasTakenOthers, IsHeldStart, HasHeld, HasHeldUntilSettled};
+ghost use Rattle.loosewalks.specs.Held.{HasAddedHeldNote, HasTakenOthers, IsHeldStart, HasTakenHeld, HasHeld, HasHeldUntilSettled};
 ghost use Rattle.noted.specs.NotedSteps.{IsOfOther};
 ghost use Rattle.regions.specs.Machine.{state_at};
 
@@ -142,6 +142,33 @@ fn sleep_on(
     sleep_through(scope.alloc, machine, outputs, &start.sleepers, notes)
 }
 
+// Takes what is held from such a start, once the others are done, by steps that the room has the notes of. Answers whether it came to where
+// nothing is active, the steps of the others keep off what is held, and who sleeps sleeps through it.
+fn take_rest(
+    holding: HeldScope<'_>,
+    start: &HeldStart,
+    cone: &HeldCone,
+    room: &mut LooseRoom,
+    machine: &mut Machine<'_>,
+) -> Result<bool, AllocError>
+    requires { length start.now.begin.values ≡ length machine.old.code.widths }
+    ensures done { IfOk result (λ all. all ≡ true → HasTakenHeld (class_in holding.entry.scope.rules.classes.now) holding.entry.scope.network.now holding.entry.held.now start.now machine.old room.old.certificate room.old.way.items machine.new room.new.way.items) }
+    ensures code { machine.new.code ≡ machine.old.code }
+{
+    let HeldScope { scope, held } = holding;
+    let notes = room.certificate.notes();
+    let pending = start.pending.as_slice();
+    if !keep_off(scope.alloc, scope.network, held, pending, cone, notes)? {
+        room.rest = unmet_by(scope.alloc, scope.network, held, cone, notes)?;
+        return Ok(false);
+    }
+    if !sleep_on(holding, start, cone, notes, machine)? {
+        return Ok(false);
+    }
+    let all = take_on(machine, scope.rules.classes, &mut room.way)?;
+    Ok(all)
+}
+
 // Takes all that is active from such a start: what is held comes last. Answers whether it came to where nothing is active, the steps of the
 // others certify each other and keep off what is held, and who sleeps sleeps through it.
 fn take_from(
@@ -161,17 +188,8 @@ fn take_from(
         return Ok(false);
     }
     let notes = room.certificate.notes();
-    let pending = start.pending.as_slice();
-    let cone = cone_beside(scope.alloc, scope.network, held, pending, notes)?;
-    if !keep_off(scope.alloc, scope.network, held, pending, &cone, notes)? {
-        room.rest = unmet_by(scope.alloc, scope.network, held, &cone, notes)?;
-        return Ok(false);
-    }
-    if !sleep_on(holding, start, &cone, notes, machine)? {
-        return Ok(false);
-    }
-    let all = take_on(machine, scope.rules.classes, &mut room.way)?;
-    Ok(all)
+    let cone = cone_beside(scope.alloc, scope.network, held, &start.pending, notes)?;
+    take_rest(holding, start, &cone, room, machine)
 }
 
 /// Takes all that is active: what is held comes last. Answers whether it came to where nothing is active, the steps of the others certify
@@ -188,7 +206,33 @@ pub(crate) fn take_held(
         Some(start) => start,
         None => return Ok(false),
     };
-    take_from(holding, &start, room, machine)
+    let all = take_from(holding, &start, room, machine);
+    drop(start);
+    all
+}
+
+// Takes all that is active from such a start. Answers whether it came to where nothing is active as above, and what is held settles until
+// there. Where it doesn't, those of it that do are left in the room for the next try.
+fn settle_from(
+    holding: HeldScope<'_>,
+    start: &HeldStart,
+    room: &mut LooseRoom,
+    machine: &mut Machine<'_>,
+) -> Result<bool, AllocError>
+    requires network { IsNetworkOf machine.old.code holding.scope.network.now }
+    requires start { IsHeldStart machine.old holding.scope.network.now holding.held.now start.now }
+    ensures done { IfOk result (λ all. all ≡ true → (limits : Limits) → MayBeHeld machine.old.code (state_at machine.old) holding.entry.scope.network.now holding.entry.held.now → HasHeldUntilSettled (class_in holding.entry.scope.rules.classes.now) limits machine.old holding.entry.scope.network.now holding.entry.held.now room.new.way.items machine.new) }
+    ensures code { machine.new.code ≡ machine.old.code }
+{
+    let HeldScope { scope, held } = holding;
+    if !take_from(holding, start, room, machine)? {
+        return Ok(false);
+    }
+    if settle_since(scope.alloc, &start.begin, machine, scope.network, held)? {
+        return Ok(true);
+    }
+    room.rest = members_settled_since(scope.alloc, machine, scope.network, &start.begin, held)?;
+    Ok(false)
 }
 
 /// Takes all that is active likewise. Answers whether it came to where nothing is active, the steps of the others certify each other and keep
@@ -202,19 +246,13 @@ pub(crate) fn take_held_until_settled(
     ensures done { IfOk result (λ all. all ≡ true → (limits : Limits) → MayBeHeld machine.old.code (state_at machine.old) holding.entry.scope.network.now holding.entry.held.now → HasHeldUntilSettled (class_in holding.entry.scope.rules.classes.now) limits machine.old holding.entry.scope.network.now holding.entry.held.now room.new.way.items machine.new) }
     ensures code { machine.new.code ≡ machine.old.code }
 {
-    let HeldScope { scope, held } = holding;
     let start = match start_of(holding, machine)? {
         Some(start) => start,
         None => return Ok(false),
     };
-    if !take_from(holding, &start, room, machine)? {
-        return Ok(false);
-    }
-    if settle_since(scope.alloc, &start.begin, machine, scope.network, held)? {
-        return Ok(true);
-    }
-    room.rest = members_settled_since(scope.alloc, machine, scope.network, &start.begin, held)?;
-    Ok(false)
+    let all = settle_from(holding, &start, room, machine);
+    drop(start);
+    all
 }
 
 /// Those of these processes that may be held until the others are done, where there are any.

@@ -119,6 +119,28 @@ fn go_on<'d>(
     Ok(false)
 }
 
+// Goes on so many times, or as long as it can.
+fn go_far<'d>(
+    scope: WalkScope<'_>,
+    room: &mut LooseRoom,
+    most: usize,
+    walk: &mut Walk<'d>,
+    machine: &mut Machine<'d>,
+) -> Result<(), AllocError>
+    requires network { IsNetworkOf machine.old.code scope.network.now }
+    requires code { AreOfCode machine.old.code machine.old walk.old }
+    ensures on { OnOk result (WalkGoesOn (class_in scope.entry.rules.classes.now) scope.entry.rules.limits machine.old walk.old machine.new walk.new) }
+    ensures time { OnOk result (scope.entry.rules.stops ≡ AtTime → StillPassesTimeFirst walk.old walk.new) }
+    ensures code { AreOfCode machine.old.code machine.new walk.new }
+{
+    for _ in 0..most {
+        if !go_on(scope, room, walk, machine)? {
+            return Ok(());
+        }
+    }
+    Ok(())
+}
+
 /// Goes on from where a machine stands as long as one way stands for all loose runs, and never past the most entries: for some hundred
 /// steps at most, or as many as what is pending, if that is more. By its rules it may have to stop before time passes, too, unless that is
 /// its first move. Answers the transitions of the entries that the machine took. The room is kept for the next walk.
@@ -144,10 +166,6 @@ pub fn walk_loosely(
     };
     let mut walk = Walk::new(alloc);
     let most = MOST_STEPS.max(steps_for_copy(machine));
-    for _ in 0..most {
-        if !go_on(scope, room, &mut walk, machine)? {
-            return walk.into_moves();
-        }
-    }
+    go_far(scope, room, most, &mut walk, machine)?;
     walk.into_moves()
 }

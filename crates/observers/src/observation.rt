@@ -169,5 +169,7 @@ pub fn observe_journal(
     ensures none { IfOk result (λ found. IfNone found (observed_run (design_of design.now) (observer_of observing.now) journal.now ≡ None)) }
 {
     let mut machine = Machine::start(alloc, design)?;
-    observe_from(alloc, &mut machine, observing, journal)
+    let found = observe_from(alloc, &mut machine, observing, journal);
+    drop(machine);
+    found
 }

@@ -115,6 +115,15 @@ fn pass_next(one: &mut Followed<'_>, other: &mut Followed<'_>) -> Result<bool, A
     pass_both(one, other)
 }
 
+// The time that passes where two journals were followed to.
+fn passing_of(one: &Followed<'_>, other: &Followed<'_>) -> Passing {
+    Passing {
+        time: one.machine.time().max(other.machine.time()),
+        first: one.taken,
+        second: other.taken,
+    }
+}
+
 // Follows two journals to the first time that passes where registers differ, if there is one. Fails where memory is refused.
 fn follow_beside(
     one: &mut Followed<'_>,
@@ -122,17 +131,25 @@ fn follow_beside(
 ) -> Result<Option<Passing>, AllocError> {
     for _ in 0..one.journal.len().saturating_add(other.journal.len()) {
         if is_some_other(&one.machine, &other.machine) {
-            return Ok(Some(Passing {
-                time: one.machine.time().max(other.machine.time()),
-                first: one.taken,
-                second: other.taken,
-            }));
+            return Ok(Some(passing_of(one, other)));
         }
         if !pass_next(one, other)? {
             return Ok(None);
         }
     }
     Ok(None)
+}
+
+// Where the first time passes at which registers differ, if there is one, of two journals at their start. Fails where memory is refused.
+fn parting_of(
+    one: &mut Followed<'_>,
+    other: &mut Followed<'_>,
+) -> Result<Option<Passing>, AllocError> {
+    if pass_both(one, other)? {
+        follow_beside(one, other)
+    } else {
+        Ok(None)
+    }
 }
 
 /// Where the first time passes at which registers differ in the runs of two journals, if there is one.
@@ -144,9 +161,5 @@ pub(crate) fn first_parting(
 ) -> Result<Option<Passing>, AllocError> {
     let mut one = Followed::start(alloc, design, first)?;
     let mut other = Followed::start(alloc, design, second)?;
-    if pass_both(&mut one, &mut other)? {
-        follow_beside(&mut one, &mut other)
-    } else {
-        Ok(None)
-    }
+    parting_of(&mut one, &mut other)
 }

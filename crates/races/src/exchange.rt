@@ -7,7 +7,7 @@ use crate::follow::{follow_made, follow_on, follow_segment, lead_all};
 use crate::guide::Guide;
 use crate::race_search::RaceSearch;
 use accesses::{Pair, lead};
-use conflicts::{Conflict, JournaledMachine, RunTransitions, Turning, next_change, repeat};
+use conflicts::{Conflict, JournaledMachine, Turning, next_change, repeat};
 use model::end::End;
 use model::entry::Entry;
 use progress::Progress;
@@ -36,6 +36,17 @@ fn put_key(alloc: Global, bytes: &mut Vec<u8>, machine: &Machine<'_>) -> Result<
     key(bytes, &mut scratch, machine.state(), machine.store())
 }
 
+// Whether the state of a machine, but for the numbers of events, has these bytes. Puts its own behind others.
+fn has_key(
+    alloc: Global,
+    bytes: &[u8],
+    others: &mut Vec<u8>,
+    machine: &Machine<'_>,
+) -> Result<bool, AllocError> {
+    put_key(alloc, others, machine)?;
+    Ok(bytes == others.as_slice())
+}
+
 // Whether two machines have one state, but for the numbers of events.
 fn have_one_state(
     alloc: Global,
@@ -45,8 +56,7 @@ fn have_one_state(
     let mut bytes = Vec::new(alloc);
     put_key(alloc, &mut bytes, one)?;
     let mut others = Vec::new(alloc);
-    put_key(alloc, &mut others, other)?;
-    Ok(bytes.as_slice() == others.as_slice())
+    has_key(alloc, bytes.as_slice(), &mut others, other)
 }
 
 // Whether two machines printed one text, which is taken out of the second one.
@@ -88,6 +98,18 @@ impl<'a> ExchangeLead<'a> {
         }
     }
 
+    // The entries of the first run from the pair up to the next change of the regions. None where they are more than are followed.
+    fn entries_to_change(self) -> Option<&'a [Entry]> {
+        let journal = self.task.original.journal.as_slice();
+        let from = self.pair.earlier;
+        let to = next_change(self.task.transitions(), self.pair.later);
+        if from <= to && to <= journal.len() && to - from <= MOST_REJOINED {
+            Some(&journal[from..to])
+        } else {
+            None
+        }
+    }
+
     // Whether a second run stands where the first one stood before the next change of the regions, with the same text: what follows is
     // the same then. The machine stands where the two runs part, and is led on by the first one's entries.
     fn rejoins(
@@ -95,22 +117,19 @@ impl<'a> ExchangeLead<'a> {
         run: &JournaledMachine<'_>,
         machine: &mut Machine<'_>,
     ) -> Result<bool, AllocError> {
-        let task = self.task;
-        let place = next_change(task.transitions(), self.pair.later);
-        let entries = match task.original.journal.get(self.pair.earlier..place) {
-            Some(entries) => entries,
-            None => return Ok(false),
-        };
-        if entries.len() > MOST_REJOINED || run.machine.state().is_active() {
+        if run.machine.state().is_active() {
             return Ok(false);
         }
+        let Some(entries) = self.entries_to_change() else {
+            return Ok(false);
+        };
         if !lead(machine, entries)? {
             return Ok(false);
         }
-        if !have_one_state(task.alloc, &run.machine, machine)? {
+        if !have_one_state(self.task.alloc, &run.machine, machine)? {
             return Ok(false);
         }
-        have_one_text(task.alloc, &run.machine, machine)
+        have_one_text(self.task.alloc, &run.machine, machine)
     }
 
     // Takes the entries of the first run before the pair. The answer is whether all were taken. Fails where memory is refused.
@@ -135,6 +154,32 @@ impl<'a> ExchangeLead<'a> {
         lead_all(run, self.task.transitions(), self.places)
     }
 
+    // Takes the entries in the place of the pair, and then the transitions of the first run as far as they may be taken. The machine stands where
+    // the run does. None where one of those may not be taken, where it comes to where the first run came, or has as many entries as it may
+    // have.
+    fn swapped_behind<P: Progress>(
+        self,
+        run: &mut JournaledMachine<'_>,
+        machine: &mut Machine<'_>,
+        progress: &P,
+    ) -> Result<Option<End>, AllocError>
+        requires { IsUnderWay run.old }
+        ensures { HasFollowed run.old run.new result }
+    {
+        if !lead_all(run, self.task.transitions(), self.places)? {
+            return Ok(None);
+        }
+        let mut guide = self.guide();
+        let end = follow_segment(run, &mut guide, MOST_STEPS);
+        if end.is_some() {
+            return Ok(end);
+        }
+        if self.rejoins(run, machine)? {
+            return Ok(None);
+        }
+        Ok(follow_on(run, &mut guide, self.most, progress))
+    }
+
     // Takes the entries of the first run before the pair, those in its place, and then the transitions of the first run as far as they
     // may be taken. None where one of those before may not be taken, where it comes to where the first run came, or has as many entries
     // as it may have.
@@ -150,18 +195,7 @@ impl<'a> ExchangeLead<'a> {
             return Ok(None);
         }
         let mut machine = copy_of(self.task.alloc, &run.machine)?;
-        if !lead_all(run, self.task.transitions(), self.places)? {
-            return Ok(None);
-        }
-        let mut guide = self.guide();
-        let end = follow_segment(run, &mut guide, MOST_STEPS);
-        if end.is_some() {
-            return Ok(end);
-        }
-        if self.rejoins(run, &mut machine)? {
-            return Ok(None);
-        }
-        Ok(follow_on(run, &mut guide, self.most, progress))
+        self.swapped_behind(run, &mut machine, progress)
     }
 
     // Takes the entries of the first run before the pair, and those in its place, of which the last finishes the run. None where one may
@@ -176,6 +210,31 @@ impl<'a> ExchangeLead<'a> {
         Ok(run.end())
     }
 
+    // Takes the entries of the first run before its last one, another one and what comes of it, and then the last one. The answer is whether all
+    // were taken. Fails where memory is refused.
+    fn take_held_back(
+        self,
+        other: Entry,
+        run: &mut JournaledMachine<'_>,
+    ) -> Result<bool, AllocError>
+        requires { IsUnderWay run.old }
+        ensures { HasGoneOn run.old run.new }
+    {
+        if !self.repeat_before(run)? {
+            return Ok(false);
+        }
+        if !repeat(run, &[other])? {
+            return Ok(false);
+        }
+        if !follow_made(run, MOST_STEPS)? {
+            return Ok(false);
+        }
+        match self.task.original.journal.get(self.pair.earlier) {
+            Some(last) => repeat(run, &[*last]),
+            None => Ok(false),
+        }
+    }
+
     // Takes the entries of the first run before its last one, another one and what comes of it, then the last one, and goes on. None
     // where one of those may not be taken, or it has as many entries as it may have. Fails where memory is refused to those.
     fn held_back<P: Progress>(
@@ -187,27 +246,10 @@ impl<'a> ExchangeLead<'a> {
         requires { IsUnderWay run.old }
         ensures { HasFollowed run.old run.new result }
     {
-        if !self.repeat_before(run)? {
+        if !self.take_held_back(other, run)? {
             return Ok(None);
         }
-        if !repeat(run, &[other])? {
-            return Ok(None);
-        }
-        if !follow_made(run, MOST_STEPS)? {
-            return Ok(None);
-        }
-        let Some(last) = self.task.original.journal.get(self.pair.earlier).copied() else {
-            return Ok(None);
-        };
-        if !repeat(run, &[last])? {
-            return Ok(None);
-        }
-        let mut guide = Guide {
-            transitions: RunTransitions::new(&[], &[]),
-            at: 0,
-            taken: &[],
-            later: 0,
-        };
+        let mut guide = Guide::of_none();
         Ok(follow_on(run, &mut guide, self.most, progress))
     }
 
@@ -245,26 +287,43 @@ impl<'a> ExchangeLead<'a> {
             (Order::Turned, Turning::HeldBack(other)) => self.held_back(other, run, progress),
         }
     }
+
+    // Leads a run, takes its entries off those that are left to second runs, and gives what is told of it, where it comes to an end.
+    fn make<P: Progress>(
+        self,
+        order: Order,
+        run: &mut JournaledMachine<'_>,
+        left: &mut u64,
+        progress: &P,
+    ) -> Result<Option<RunRecord>, AllocError>
+        requires { IsUnderWay run.old }
+        ensures { IfOk result (λ made. IfSome made (IsRun run.old.machine.code run.old.limits)) }
+    {
+        let end = self.led(order, run, progress);
+        *left = self.most.saturating_sub(run.journal.len() as u64);
+        run.told_if(self.task.alloc, end)
+    }
 }
 
-// The places of what a second run takes in the place of a conflict's earlier entry: those of the steps between the two, and then the two,
-// in this order, but the earlier one only where it isn't cut off.
-fn places_of(alloc: Global, conflict: &Conflict, order: Order) -> Result<Vec<usize>, AllocError> {
+// Keeps the places of what a second run takes in the place of a conflict's earlier entry: those of the steps between the two, and then the
+// two, in this order, but the earlier one only where it isn't cut off. Fails where memory is refused.
+fn put_places(
+    places: &mut Vec<usize>,
+    conflict: &Conflict,
+    order: Order,
+) -> Result<(), AllocError> {
     let Pair { earlier, later, .. } = conflict.pair;
-    let mut places = Vec::new(alloc);
     for behind in 1..later.saturating_sub(earlier) {
         if conflict.before.steps.contains(behind) {
             places.push(earlier.saturating_add(behind))?;
         }
     }
-    if let Order::Kept = order {
-        places.push(earlier)?;
+    match (order, conflict.turning) {
+        (Order::Kept, _) => places.extend_from_slice(&[earlier, later])?,
+        (Order::Turned, Turning::Swapped) => places.extend_from_slice(&[later, earlier])?,
+        (Order::Turned, _) => places.push(later)?,
     }
-    places.push(later)?;
-    if let (Order::Turned, Turning::Swapped) = (order, conflict.turning) {
-        places.push(earlier)?;
-    }
-    Ok(places)
+    Ok(())
 }
 
 /// A second run, in which the order of a conflict's entries is turned or kept, and the steps before them come before both. What it takes is
@@ -284,7 +343,8 @@ pub(crate) fn exchange<P: Progress>(
         *left = 0;
         return Ok(None);
     }
-    let places = places_of(task.alloc, conflict, order)?;
+    let mut places = Vec::new(task.alloc);
+    put_places(&mut places, conflict, order)?;
     let mut run = JournaledMachine::start(task.alloc, task.design, task.limits)?;
     let lead = ExchangeLead {
         task,
@@ -293,7 +353,5 @@ pub(crate) fn exchange<P: Progress>(
         places: &places,
         most,
     };
-    let end = lead.led(order, &mut run, progress);
-    *left = most.saturating_sub(run.journal.len() as u64);
-    run.told_if(task.alloc, end)
+    lead.make(order, &mut run, left, progress)
 }

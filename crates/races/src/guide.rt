@@ -20,6 +20,18 @@ pub(crate) struct Guide<'m> {
     pub(crate) later: usize,
 }
 
+impl Guide<'static> {
+    /// Without transitions, so that the first entry that may be next is chosen.
+    pub(crate) fn of_none() -> Guide<'static> {
+        Guide {
+            transitions: RunTransitions::new(&[], &[]),
+            at: 0,
+            taken: &[],
+            later: 0,
+        }
+    }
+}
+
 impl<'m> Guide<'m> {
     // Whether the transition at a place was taken before.
     fn is_taken(&self, place: usize) -> bool {

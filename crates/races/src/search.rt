@@ -76,6 +76,7 @@ pub fn find_races<P: Progress>(
     let mut recorder = RunRecorder::start(alloc, design, bounds);
     let original = record_run(alloc, &mut run, &mut recorder, progress);
     if wants_memory(&original) {
+        drop(recorder);
         return without_races(alloc, original);
     }
     recorder.finish();
@@ -87,13 +88,15 @@ pub fn find_races<P: Progress>(
         original: &original,
         processes: &recorder.processes,
     };
+    let trials = try_all(task, &recorder.conflicts, progress);
+    drop(recorder);
     let Trials {
         races,
         tried,
         cut,
         unseen,
         ..
-    } = try_all(task, &recorder.conflicts, progress);
+    } = trials;
     Found {
         original,
         races,

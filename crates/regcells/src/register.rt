@@ -3,15 +3,17 @@ ghost use Rattle.std.specs.Prelude.{◌≡◌, ◌+◌, ◌<◌, ◌≤◌, ◌-
 ghost use Rattle.std.specs.List.{All};
 ghost use mathlib.Core.List.{IsPrefix};
 ghost use Rattle.crossbeam_utils.specs.Seq.{cell_view};
+ghost use Rattle.crossbeam_utils.specs.Register.{Turns};
 ghost use Rattle.logic4.specs.Vector.{Vector, unknown, greatest_width};
 ghost use Rattle.turn.specs.TurnChanges.{altered};
 ghost use Rattle.regions.specs.Past.{IsTurnChangeOf};
 ghost use Rattle.regcells.specs.Values.{register_width, last_value, values_after, room_of};
-ghost use Rattle.regcells.specs.RegisterRule.{holder};
+ghost use Rattle.regcells.specs.RegisterRule.{holder, informed, CellInvariant};
 ghost use Rattle.regcells.specs.Passes.{seen_by, name_of_pass, name_of_register, HasSeenValue, IsHolding};
 
-use crate::rule::{Cell, Checks, Giving, Notes, RegPass, RegisterLoad, Stores};
+use crate::rule::{Cell, Checks, Giving, Notes, RegPass, RegisterLoad, Stores, View};
 use crate::words::{WORDS, seen_in, words_of};
+use crossbeam_utils::rule::Outcome;
 use design::RegId;
 use logic4::bits::Bits;
 use std::alloc::{AllocError, Global};
@@ -39,6 +41,37 @@ fn changes_after(last: Bits, turn_change: TurnChange) -> u64
 }
 
 impl Register {
+    // One load, which tells what its outcome says.
+    #[inline(always)]
+    fn load<M: Outcome<[u64; WORDS], View>, R: Wait>(
+        &self,
+        rt: &R,
+        pass: &mut RegPass,
+    ) -> [u64; WORDS]
+        requires cell { pass.old.table_id ≡ self.now.cell.table.shared.table_id }
+        requires rule { Turns CellInvariant pass.old.id (cell_view pass.old) (λ x. x) M.then }
+        ensures cell { pass.new.table_id ≡ pass.old.table_id }
+        ensures rule { M.then (cell_view pass.old) result result (cell_view pass.new) }
+    {
+        self.cell.load_as::<M, R>(rt, pass)
+    }
+
+    // One store, which tells what its outcome says. It gives the words before it.
+    #[inline(always)]
+    fn swap<M: Outcome<[u64; WORDS], View>, R: Wait>(
+        &self,
+        rt: &R,
+        pass: &mut RegPass,
+        words: [u64; WORDS],
+    ) -> [u64; WORDS]
+        requires cell { pass.old.table_id ≡ self.now.cell.table.shared.table_id }
+        requires rule { Turns CellInvariant pass.old.id (cell_view pass.old) (λ _. words) M.then }
+        ensures cell { pass.new.table_id ≡ pass.old.table_id }
+        ensures rule { M.then (cell_view pass.old) result words (cell_view pass.new) }
+    {
+        self.cell.swap_as::<M, R>(rt, pass, words)
+    }
+
     /// A register of this width, all x, and the pass that stores.
     pub fn new<R: Wait>(
         rt: &R,
@@ -65,7 +98,7 @@ impl Register {
         ensures version { length (seen_by pass.new) ≡ result.version + 1 }
         ensures width { length result.value ≡ self.now.width }
     {
-        let words = self.cell.load_as::<RegisterLoad, R>(rt, pass);
+        let words = self.load::<RegisterLoad, R>(rt, pass);
         seen_in(self.width, words)
     }
 
@@ -82,7 +115,7 @@ impl Register {
         ensures version { length (seen_by pass.old) ≡ result.version + 1 }
         ensures width { length result.value ≡ self.now.width }
     {
-        let words = self.cell.load_as::<Checks, R>(rt, pass);
+        let words = self.load::<Checks, R>(rt, pass);
         seen_in(self.width, words)
     }
 
@@ -97,7 +130,7 @@ impl Register {
         ensures given { cell_view pass.new ≡ holder (values_after (seen_by pass.old) X.given) }
     {
         let words = words_of(value, version);
-        self.cell.swap_as::<Stores<X>, R>(rt, pass, words);
+        self.swap::<Stores<X>, R>(rt, pass, words);
     }
 
     /// The holder gives the register values, one after another, of which the turn change is known. One store of the last of them
@@ -134,8 +167,20 @@ impl Register {
         ensures name { (name_of_pass pass.new ≡ name_of_pass pass.old) × (name_of_pass result ≡ name_of_pass pass.old) }
         ensures same { cell_view pass.new ≡ cell_view pass.old }
         ensures seen { seen_by result ≡ seen_by pass.old }
+        ensures plain { result.me.1 ≡ [] }
     {
         self.cell.split_pass::<Notes>(pass)
+    }
+
+    // The holder's pass is told of what another has seen.
+    fn inform(&self, all: &mut RegPass, note: RegPass)
+        requires all { name_of_pass all.old ≡ name_of_register self.now }
+        requires note { note.table_id ≡ all.old.table_id }
+        requires plain { note.me.1 ≡ [] }
+        ensures name { all.new.table_id ≡ all.old.table_id }
+        ensures told { cell_view all.new ≡ informed (cell_view all.old) (cell_view note) }
+    {
+        self.cell.join_pass::<Notes>(all, note);
     }
 
     /// The seat's pass has then seen all that the holder's has, of which it tells the last. A join alone tells nothing: what the
@@ -151,10 +196,10 @@ impl Register {
         ensures entry { slice_get (seen_by all.old) result.version ≡ Some result.value }
         ensures version { length (seen_by all.old) ≡ result.version + 1 }
     {
-        let note = self.cell.split_pass::<Notes>(pass);
-        self.cell.join_pass::<Notes>(all, note);
+        let note = self.note(pass);
+        self.inform(all, note);
         let last = self.check(rt, all);
-        *pass = self.cell.split_pass::<Notes>(all);
+        *pass = self.note(all);
         last
     }
 }

@@ -2,6 +2,7 @@
 pub mod Sets
 pub mod SlotLaws
 pub mod Covers
+mod Woken
 pub mod Changes
 pub mod Pasts
 pub mod ChangedInTurn

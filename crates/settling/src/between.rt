@@ -109,6 +109,25 @@ fn settles(
     is_pending_or_settled(log, machine, network, process)
 }
 
+// Whether each of these processes settles. Turns that have to be evaluated for that are evaluated into the log.
+fn all_settle(
+    log: &mut TurnLog,
+    begin: &Begin,
+    machine: &Machine<'_>,
+    network: &Network,
+    members: &[u32],
+) -> Result<bool, AllocError>
+    requires found { IsNetworkOf machine.now.code network.now }
+    ensures { IfOk result (λ settled. settled ≡ true → HaveSettledSince begin.now machine.now network.now members.now) }
+{
+    for member in members {
+        if !settles(log, begin, machine, network, *member)? {
+            return Ok(false);
+        }
+    }
+    Ok(true)
+}
+
 /// Whether each of these processes, the members of a phase that began so or processes that were held from there on, settles from there to
 /// where a machine stands and nothing is active: it was pending at the begin, or had settled, or one of its inputs has another value. Fails
 /// where memory is refused.
@@ -123,12 +142,30 @@ pub fn settle_since(
     ensures { IfOk result (λ settled. settled ≡ true → HaveSettledSince begin.now machine.now network.now members.now) }
 {
     let mut log = TurnLog::new(alloc);
-    for member in members {
-        if !settles(&mut log, begin, machine, network, *member)? {
-            return Ok(false);
+    let settled = all_settle(&mut log, begin, machine, network, members);
+    drop(log);
+    settled
+}
+
+// Those of these processes that settle. Turns that have to be evaluated for that are evaluated into the log.
+fn members_settling(
+    log: &mut TurnLog,
+    alloc: Global,
+    machine: &Machine<'_>,
+    network: &Network,
+    begin: &Begin,
+    members: &[u32],
+) -> Result<Vec<u32>, AllocError>
+    requires found { IsNetworkOf machine.now.code network.now }
+    ensures { IfOk result (λ settled. (p : ℕ) → contains settled.items p ≡ true → HasSettledSince begin.now machine.now network.now p) }
+{
+    let mut settled = Vec::new(alloc);
+    for process in members {
+        if settles(log, begin, machine, network, *process)? {
+            settled.push(*process)?;
         }
     }
-    Ok(true)
+    Ok(settled)
 }
 
 /// Those of these processes that settle so.
@@ -143,11 +180,7 @@ pub fn members_settled_since(
     ensures { IfOk result (λ settled. (p : ℕ) → contains settled.items p ≡ true → HasSettledSince begin.now machine.now network.now p) }
 {
     let mut log = TurnLog::new(alloc);
-    let mut settled = Vec::new(alloc);
-    for process in members {
-        if settles(&mut log, begin, machine, network, *process)? {
-            settled.push(*process)?;
-        }
-    }
-    Ok(settled)
+    let settled = members_settling(&mut log, alloc, machine, network, begin, members);
+    drop(log);
+    settled
 }

@@ -14,6 +14,26 @@ use regions::Machine;
 use std::alloc::{AllocError, Global};
 use turn::TurnLog;
 
+// Those of these processes that are combinational, and pending or settled. The turn of each that waits is evaluated for that, into the log.
+fn settled_among(
+    log: &mut TurnLog,
+    alloc: Global,
+    machine: &Machine<'_>,
+    network: &Network,
+    among: &[u32],
+) -> Result<Vec<u32>, AllocError>
+    requires found { IsNetworkOf machine.now.code network.now }
+    ensures { IfOk result (λ settled. ArePendingOrSettled machine.now.code (state_at machine.now) network.now settled.items) }
+{
+    let mut settled = Vec::new(alloc);
+    for process in among {
+        if is_pending_or_settled(log, machine, network, *process)? {
+            settled.push(*process)?;
+        }
+    }
+    Ok(settled)
+}
+
 /// Those of these processes that are combinational, and pending or settled. The turn of each that waits is evaluated for that.
 pub fn settled_of(
     alloc: Global,
@@ -25,13 +45,9 @@ pub fn settled_of(
     ensures { IfOk result (λ settled. ArePendingOrSettled machine.now.code (state_at machine.now) network.now settled.items) }
 {
     let mut log = TurnLog::new(alloc);
-    let mut settled = Vec::new(alloc);
-    for process in among {
-        if is_pending_or_settled(&mut log, machine, network, *process)? {
-            settled.push(*process)?;
-        }
-    }
-    Ok(settled)
+    let settled = settled_among(&mut log, alloc, machine, network, among);
+    drop(log);
+    settled
 }
 
 // Whether a process is combinational, and pending or waits, and none of its outputs is among these registers.

@@ -4,7 +4,7 @@ ghost use Rattle.model.specs.declared.entry.Entry.{Entry};
 ghost use Rattle.regions.specs.StepLogs.{IsTaken};
 ghost use Rattle.regions.specs.Machine.{most_entries, state_at, IsNotTaken};
 ghost use Rattle.steps.specs.Accounts.{account_of};
-ghost use Rattle.steps.specs.ExplainerStanding.{IsExplainerBehind, IsExplained, IsLogFilled, IsNotExplained};
+ghost use Rattle.steps.specs.ExplainerStanding.{standing_of, IsKept, IsExplainerBehind, IsExplained, IsLogFilled, IsNotExplained};
 
 use crate::cells::{VersionedValue, first_cells};
 use crate::entry_account::EntryAccount;
@@ -63,6 +63,36 @@ fn take_noted(
     }
 }
 
+// Takes an entry, and tells of it.
+fn take_told(
+    machine: &mut Machine<'_>,
+    cells: &mut Vec<VersionedValue>,
+    log: &mut TurnLog,
+    told: &mut EntryAccount,
+    entry: Entry,
+) -> Result<(), StepFault>
+    requires { IsKept machine.old cells.old.items }
+    ensures kept { IsKept machine.new cells.new.items }
+    ensures told { OnOk result ((journal : List Entry) → IsExplainerBehind journal (standing_of machine.old cells.old.items told.old) → IsExplained journal entry (standing_of machine.old cells.old.items told.old) (standing_of machine.new cells.new.items told.new)) }
+    ensures entries { OnOk result (machine.new.core.entries ≡ machine.old.core.entries + 1) }
+    ensures few { OnOk result (machine.old.core.entries < most_entries) }
+    ensures code { machine.new.code ≡ machine.old.code }
+    ensures fault { IfErr result (IsNotExplained machine.old entry) }
+    ensures err { OnErr result (state_at machine.new ≡ state_at machine.old) }
+{
+    let number = match note(machine, entry, log, cells, told) {
+        Ok(number) => number,
+        Err(_) => return Err(StepFault::Memory),
+    };
+    match take_noted(machine, entry, number, log) {
+        Ok(()) => {}
+        Err(fault) => return Err(StepFault::NotTaken(fault)),
+    }
+    told.lines = machine.take_lines();
+    told.time = machine.time();
+    Ok(())
+}
+
 impl<'d> Explainer<'d> {
     /// The start of a design's run (11.3): every register is all x, at version 0. Fails where memory is refused.
     pub fn start(alloc: Global, design: &'d Design) -> Result<Explainer<'d>, AllocError>
@@ -70,8 +100,9 @@ impl<'d> Explainer<'d> {
         ensures code { IfOk result (λ e. e.position.code ≡ design.now) }
         ensures entries { IfOk result (λ e. e.position.core.entries ≡ 0) }
     {
-        let machine = Machine::start(alloc, design)?;
+        // The machine is made last, so that no failure behind it lets it go.
         let cells = first_cells(alloc, design)?;
+        let machine = Machine::start(alloc, design)?;
         Ok(Explainer {
             machine,
             cells,
@@ -91,23 +122,13 @@ impl<'d> Explainer<'d> {
         ensures fault { IfErr result (IsNotExplained self.old.position entry) }
         ensures err { OnErr result (state_at self.new.position ≡ state_at self.old.position) }
     {
-        let number = match note(
-            &self.machine,
-            entry,
-            &mut self.log,
+        take_told(
+            &mut self.machine,
             &mut self.cells,
+            &mut self.log,
             &mut self.told,
-        ) {
-            Ok(number) => number,
-            Err(_) => return Err(StepFault::Memory),
-        };
-        match take_noted(&mut self.machine, entry, number, &self.log) {
-            Ok(()) => {}
-            Err(fault) => return Err(StepFault::NotTaken(fault)),
-        }
-        self.told.lines = self.machine.take_lines();
-        self.told.time = self.machine.time();
-        Ok(())
+            entry,
+        )
     }
 
     /// What is told of the last entry.

@@ -55,7 +55,7 @@ fn add<'a>(alloc: Global, found: &mut Vec<Token<'a>>, piece: &'a [u8]) -> Result
 }
 
 /// Why a text isn't cut into tokens. Places are bytes, counted from 0.
-#[derive(Clone, Copy, Debug, PartialEq, Eq)]
+#[derive(Clone, Copy)]
 pub enum CutFault {
     /// Memory is refused.
     Memory,

@@ -8,7 +8,7 @@ use logic4::bits::Bits;
 use std::alloc::{AllocError, Global};
 
 /// What a token is.
-#[derive(Clone, Copy, Debug, PartialEq, Eq)]
+#[derive(Clone, Copy, PartialEq, Eq)]
 pub enum Kind {
     /// The end of the text, which no token has.
     End,
@@ -71,7 +71,7 @@ pub enum Kind {
 
 /// A token, with the bytes that it is spelled with. All tokens of a text stand in memory at once, and few are numbers: so
 /// what a number stands for is read from its bytes where it is asked for.
-#[derive(Clone, Copy, Debug)]
+#[derive(Clone, Copy)]
 pub struct Token<'a> {
     pub kind: Kind,
     pub text: &'a str,

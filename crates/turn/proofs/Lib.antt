@@ -8,5 +8,6 @@ pub mod Runs
 pub mod Printed
 pub mod Values
 pub mod Steps
+mod GoingOn
 pub mod Turns
 pub mod Strobed

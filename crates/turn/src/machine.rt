@@ -2,7 +2,8 @@
 ghost use Rattle.std.specs.Prelude.{◌≡◌, ◌≤◌, ◌↔◌, true, false, IsTrue, IfOk};
 ghost use Rattle.model.specs.Runs.{last_time};
 ghost use Rattle.turn.specs.declared.log.Suspend.TheVariants.{Ended};
-ghost use Rattle.turn.specs.declared.machine.Step.TheVariants.{Ends};
+ghost use Rattle.std.specs.Result.{result_map_both};
+ghost use Rattle.turn.specs.declared.machine.Step.TheVariants.{Ends, Goes};
 ghost use Rattle.turn.specs.Reads.{ReadsOn};
 ghost use Rattle.turn.specs.Evaluate.{NamesDeclared};
 ghost use Rattle.turn.specs.RunningTurn.{turn_status_of, at, wait_for};
@@ -36,7 +37,28 @@ fn wait_until(now: u64, delay: u32) -> Suspend
     }
 }
 
+// The turn goes on after what was done, unless memory was refused to that.
+#[inline(always)]
+fn goes(done: Result<(), AllocError>) -> Result<Step, AllocError>
+    ensures { result ≡ result_map_both (λ _. Goes) (λ e. e) done }
+{
+    match done {
+        Ok(()) => Ok(Step::Goes),
+        Err(error) => Err(error),
+    }
+}
+
 impl RunningTurn {
+    // The turn goes on at this place.
+    #[inline(always)]
+    fn pass(&mut self, next: usize) -> Step
+        ensures step { result ≡ Goes }
+        ensures status { turn_status_of self.new ≡ at (turn_status_of self.old) next }
+    {
+        self.go(next);
+        Step::Goes
+    }
+
     // The turn ends, and its process goes on at this place after what it waits for.
     #[inline(always)]
     fn wait(&mut self, next: usize, suspend: Suspend) -> Step
@@ -78,14 +100,14 @@ impl RunningTurn {
         ensures reads { ReadsOn R.gave R.lasting result reader.old self.old.memory.reads.entries reader.new self.new.memory.reads.entries }
     {
         match node {
-            Node::Over => return Ok(Step::Over),
-            Node::Restart { first } => self.go(*first),
-            Node::Skip { next } => self.go(*next),
+            Node::Over => Ok(Step::Over),
+            Node::Restart { first } => Ok(self.pass(*first)),
+            Node::Skip { next } => Ok(self.pass(*next)),
             Node::Assign {
                 register,
                 value,
                 next,
-            } => self.assign(ops, *value, *register, *next, reader)?,
+            } => goes(self.assign(ops, *value, *register, *next, reader)),
             Node::AssignAfter {
                 register,
                 value,
@@ -94,10 +116,10 @@ impl RunningTurn {
             } => {
                 self.compute(ops, *value, reader)?;
                 self.hold(*register, *next);
-                return Ok(Step::Ends {
+                Ok(Step::Ends {
                     suspend: wait_until(now, *delay),
                     finish: false,
-                });
+                })
             }
             Node::AssignLater {
                 register,
@@ -106,7 +128,7 @@ impl RunningTurn {
                 next,
             } => {
                 self.compute(ops, *value, reader)?;
-                self.assign_later(*register, now + u64::from(*delay), *next)?;
+                goes(self.assign_later(*register, now + u64::from(*delay), *next))
             }
             Node::Now {
                 register,
@@ -114,23 +136,25 @@ impl RunningTurn {
                 next,
             } => {
                 let value = Bits::from_u64(size.get(), now);
-                self.write(*register, value, *next)?;
+                goes(self.write(*register, value, *next))
             }
-            Node::Delay { delay, next } => return Ok(self.wait(*next, wait_until(now, *delay))),
-            Node::Await { control, next } => return Ok(self.wait(*next, Suspend::Event(*control))),
+            Node::Delay { delay, next } => Ok(self.wait(*next, wait_until(now, *delay))),
+            Node::Await { control, next } => Ok(self.wait(*next, Suspend::Event(*control))),
             Node::Branch {
                 condition,
                 taken,
                 missed,
-            } => self.branch(ops, reader, *condition, *taken, *missed)?,
+            } => goes(self.branch(ops, reader, *condition, *taken, *missed)),
             Node::Print { task, pieces, next } => match task {
-                Task::Display => self.display(ops, shown, *pieces, *next, reader)?,
-                Task::Write => self.print_text(ops, shown, *pieces, *next, reader)?,
-                Task::Strobe => self.strobe(*next)?,
+                Task::Display => goes(self.display(ops, shown, *pieces, *next, reader)),
+                Task::Write => goes(self.print_text(ops, shown, *pieces, *next, reader)),
+                Task::Strobe => {
+                    self.strobe(*next)?;
+                    Ok(Step::Goes)
+                }
             },
-            Node::Finish { next } => return Ok(self.finish(*next)),
+            Node::Finish { next } => Ok(self.finish(*next)),
         }
-        Ok(Step::Goes)
     }
 
     /// One step of a turn at this time, over the nodes, the steps of expressions and the pieces of lines of a design.

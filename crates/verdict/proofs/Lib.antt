@@ -1,3 +1,4 @@
 -- Lemmas of texts and their lines.
 pub mod LineLaws
 pub mod Pieces
+pub mod PartLaws

@@ -17,6 +17,11 @@ pub joined_last : {A E : Type 0} (r : Result A E) (new old a mid b c : List ℕ)
 joined_last (Ok x) new old a mid b c h k e = joined new old a mid c (h ∙ ap (λ w. mid ++ w) e) k
 joined_last (Err x) new old a mid b c h k e = tt
 
+-- where one was put alone, as a vector says it
+pub put_alone : {A E : Type 0} (r : Result A E) (new old b c : List ℕ) → new ≡ (if is_ok r then old ++ b else old) → b ≡ c → OnOk r (new ≡ old ++ c)
+put_alone (Ok x) new old b c h e = h ∙ ap (λ w. old ++ w) e
+put_alone (Err x) new old b c h e = tt
+
 -- what is said where a run without an end is known
 pub endless_known : (o : Option ℕ) (prefix : Option (List ℕ)) (n : ℕ) → o ≡ Some n → endless_text o prefix ≡ some_endless o prefix
 endless_known (Some m) prefix n is = refl

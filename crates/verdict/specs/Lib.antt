@@ -8,3 +8,4 @@ pub mod UnseenLines
 pub mod StopLines
 pub mod EndingLines
 pub mod ReachLines
+pub mod LineParts

@@ -1,7 +1,7 @@
 //! What a search of lawful orders has come to.
 
 /// Why a search has stopped.
-#[derive(Clone, Copy, PartialEq, Eq, Debug)]
+#[derive(Clone, Copy)]
 pub enum SearchStop {
     /// The most states were reached.
     States(u32),
@@ -16,7 +16,7 @@ pub enum SearchStop {
 }
 
 /// Random orders: how many were tried of so many that were asked for, and why no more were tried, where fewer were.
-#[derive(Clone, Copy, PartialEq, Eq, Debug)]
+#[derive(Clone, Copy)]
 pub struct SampledOrders {
     pub made: u32,
     pub asked: u32,
@@ -24,7 +24,7 @@ pub struct SampledOrders {
 }
 
 /// What the texts that were found are among those of all lawful runs.
-#[derive(Clone, Copy, PartialEq, Eq, Debug)]
+#[derive(Clone, Copy)]
 pub enum Claim {
     /// They are all that runs with an end print.
     Every {

@@ -8,7 +8,7 @@ use std::alloc::AllocError;
 
 /// By what a list of races was cut: as many were named, as many second runs were made, these had as many entries together, more
 /// entries stood between two changes of the regions, or memory was refused.
-#[derive(Clone, Copy, Debug)]
+#[derive(Clone, Copy)]
 pub enum ListCut {
     Races(u64),
     Runs(u64),

@@ -7,7 +7,7 @@ use crate::phrases::push_number;
 use std::alloc::AllocError;
 
 /// How runs end that come to an end: by which of these some do.
-#[derive(Clone, Copy, Debug)]
+#[derive(Clone, Copy)]
 pub struct RunEndings {
     /// By `$finish` (17.4.1).
     pub finish: bool,

@@ -6,6 +6,7 @@
 //! 3. `race` puts a race into lines, or says that none was found between two texts, `difference` finds the first line in which the texts of its two runs differ, `order` says
 //!    which processes print their lines in another order in another run, and `cut` by what a list of races was cut.
 //!    `unseen` names registers whose values differ where no line shows it, and `reach` says how far in time a search came that met a limit.
+//!    `parts` puts lines together of their parts.
 //! 4. `waves` says the same of waves: of what runs have in common where more or less than their lines, in order, is compared.
 //!
 //! What the layer above uses: `push_verdict`, `push_race`, `push_line_order`, `push_unnamed`, `push_cut`, `push_followed`, `push_choices`, `push_raced_pair`, `push_unseen_line`, `push_wave` and `push_wave_verdict`, whose texts are pinned whole by
@@ -17,6 +18,7 @@ mod cut;
 mod difference;
 mod endings;
 mod order;
+mod parts;
 mod phrases;
 mod race;
 mod reach;

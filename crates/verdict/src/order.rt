@@ -3,8 +3,8 @@
 ghost use Rattle.std.specs.Prelude.{◌≡◌, ◌++◌, OnOk, option_map};
 ghost use Rattle.verdict.specs.OrderLines.{begin_line_text, later_printers_text, line_number_text, line_order_text, printer_text, printers_text, separator_text};
 
+use crate::parts::{LinePart, push_parts};
 use crate::phrases::push_number;
-use crate::race::push_journal;
 use std::alloc::AllocError;
 
 /// A process that prints lines: its number, and the line of the source in which it begins, counted from 1, if that is known.
@@ -31,13 +31,18 @@ pub fn push_line_order(
 ) -> Result<(), AllocError>
     ensures { OnOk result (text.new.items ≡ text.old.items ++ line_order_text order.entry.now.time order.entry.now.printers.now (option_map (λ path. path.now) order.entry.now.prefix) order.entry.now.journal) }
 {
-    text.extend_from_slice(b"at time ")?;
-    push_number(text, order.time)?;
-    text.extend_from_slice(b" the lines of processes ")?;
-    push_printers(text, order.printers)?;
-    text.extend_from_slice(b" come in another order in another run")?;
-    push_journal(text, order.prefix, order.journal)?;
-    text.extend_from_slice(b"\n")
+    push_parts(
+        text,
+        &[
+            LinePart::Bytes(b"at time "),
+            LinePart::Number(order.time),
+            LinePart::Bytes(b" the lines of processes "),
+            LinePart::Printers(order.printers),
+            LinePart::Bytes(b" come in another order in another run"),
+            LinePart::Journal(order.prefix, order.journal),
+            LinePart::Bytes(b"\n"),
+        ],
+    )
 }
 
 /// Puts processes behind a text, with a comma between two of them and a word before the last.

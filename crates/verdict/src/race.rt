@@ -8,7 +8,7 @@ use std::alloc::AllocError;
 
 /// What two processes race for: a register, the order of the lines that they print, that of their strobes' lines, the end of
 /// the run, or the order of updates.
-#[derive(Clone, Copy, Debug)]
+#[derive(Clone, Copy)]
 pub enum SiteDescription<'a> {
     Register(&'a str),
     Printing,
@@ -18,14 +18,14 @@ pub enum SiteDescription<'a> {
 }
 
 /// Where a process begins: whether with `always` or with `initial`, and in which line of the source, counted from 1.
-#[derive(Clone, Copy, Debug)]
+#[derive(Clone, Copy)]
 pub struct ProcessDescription {
     pub always: bool,
     pub line: usize,
 }
 
 /// A process that races: its number, where it begins, if that is known, and what it does.
-#[derive(Clone, Copy, Debug)]
+#[derive(Clone, Copy)]
 pub struct RoleDescription<'a> {
     pub number: u32,
     pub begins: Option<ProcessDescription>,
@@ -34,7 +34,7 @@ pub struct RoleDescription<'a> {
 
 /// One of the two runs of a race: the number of its journal, where that is saved, and the line in which the two differ
 /// first, with its newline, or nothing where its text has ended before.
-#[derive(Clone, Copy, Debug)]
+#[derive(Clone, Copy)]
 pub struct RunDescription<'a> {
     pub journal: Option<usize>,
     pub line: &'a [u8],
@@ -42,7 +42,7 @@ pub struct RunDescription<'a> {
 
 /// A race: for what, at which time, of whom, where journals are saved, in which line the two runs differ, if not only in
 /// their ends, and the runs in which the first or the second comes first.
-#[derive(Clone, Copy, Debug)]
+#[derive(Clone, Copy)]
 pub struct RaceDescription<'a> {
     pub number: usize,
     pub site: SiteDescription<'a>,

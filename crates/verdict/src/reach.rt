@@ -3,7 +3,8 @@
 ghost use Rattle.std.specs.Prelude.{◌≡◌, ◌++◌, OnOk};
 ghost use Rattle.verdict.specs.ReachLines.{before_text, choices_text, followed_text, some_choices_text};
 
-use crate::order::{PrinterDescription, push_printers};
+use crate::order::PrinterDescription;
+use crate::parts::{LinePart, push_parts};
 use crate::phrases::push_number;
 use std::alloc::AllocError;
 
@@ -49,9 +50,14 @@ fn push_some_choices(
 ) -> Result<(), AllocError>
     ensures { OnOk result (text.new.items ≡ text.old.items ++ some_choices_text time processes.now) }
 {
-    text.extend_from_slice(b"most choices at time ")?;
-    push_number(text, time)?;
-    text.extend_from_slice(b": processes ")?;
-    push_printers(text, processes)?;
-    text.extend_from_slice(b"\n")
+    push_parts(
+        text,
+        &[
+            LinePart::Bytes(b"most choices at time "),
+            LinePart::Number(time),
+            LinePart::Bytes(b": processes "),
+            LinePart::Printers(processes),
+            LinePart::Bytes(b"\n"),
+        ],
+    )
 }

@@ -3,19 +3,19 @@
 ghost use Rattle.std.specs.Prelude.{◌≡◌, ◌++◌, OnOk, option_map};
 ghost use Rattle.verdict.specs.StopLines.{has_stops, long_turn_text, stop_cause_text, stop_description_text, stops_text};
 
+use crate::parts::{LinePart, push_parts};
 use crate::phrases::push_number;
-use crate::race::push_journal;
 use std::alloc::AllocError;
 
 /// Why a run stops short: a turn of this process is too long, or the time would pass the last one.
-#[derive(Clone, Copy, PartialEq, Eq, Debug)]
+#[derive(Clone, Copy)]
 pub enum StopCause {
     LongTurn(u32),
     LastTime,
 }
 
 /// A text or a wave whose run stops short: its number, and why the entry with this number isn't taken.
-#[derive(Clone, Copy, Debug)]
+#[derive(Clone, Copy)]
 pub struct StopDescription {
     pub number: usize,
     pub entry: usize,
@@ -48,19 +48,24 @@ pub(crate) fn push_stops(
 }
 
 /// Puts the line on a text or a wave whose run stops short behind a text.
-fn push_stop_description(
+fn push_stop_description<'a>(
     text: &mut Vec<u8>,
-    word: &[u8],
-    prefix: Option<&str>,
+    word: &'a [u8],
+    prefix: Option<&'a str>,
     stop: StopDescription,
 ) -> Result<(), AllocError>
     ensures { OnOk result (text.new.items ≡ text.old.items ++ stop_description_text word.now (option_map (λ path. path.now) prefix.entry) stop) }
 {
-    text.extend_from_slice(word)?;
-    push_number(text, stop.number as u64)?;
-    push_journal(text, prefix, Some(stop.number))?;
-    text.extend_from_slice(b" stops short: entry ")?;
-    push_number(text, stop.entry as u64)?;
+    push_parts(
+        text,
+        &[
+            LinePart::Bytes(word),
+            LinePart::Number(stop.number as u64),
+            LinePart::Journal(prefix, Some(stop.number)),
+            LinePart::Bytes(b" stops short: entry "),
+            LinePart::Number(stop.entry as u64),
+        ],
+    )?;
     push_stop_cause(text, stop.cause)
 }
 

@@ -3,7 +3,8 @@
 ghost use Rattle.std.specs.Prelude.{◌≡◌, ◌++◌, OnOk};
 ghost use Rattle.verdict.specs.UnseenLines.{differ_at_text, raced_pair_text, unseen_line_text};
 
-use crate::order::{PrinterDescription, push_printer};
+use crate::order::PrinterDescription;
+use crate::parts::{LinePart, push_parts};
 use crate::phrases::push_number;
 use std::alloc::AllocError;
 
@@ -17,14 +18,19 @@ pub fn push_raced_pair(
 ) -> Result<(), AllocError>
     ensures { OnOk result (text.new.items ≡ text.old.items ++ raced_pair_text site.now time first second) }
 {
-    text.extend_from_slice(site)?;
-    text.extend_from_slice(b", time ")?;
-    push_number(text, time)?;
-    text.extend_from_slice(b", processes ")?;
-    push_printer(text, first)?;
-    text.extend_from_slice(b" and ")?;
-    push_printer(text, second)?;
-    text.extend_from_slice(b"; ")
+    push_parts(
+        text,
+        &[
+            LinePart::Bytes(site),
+            LinePart::Bytes(b", time "),
+            LinePart::Number(time),
+            LinePart::Bytes(b", processes "),
+            LinePart::Printer(first),
+            LinePart::Bytes(b" and "),
+            LinePart::Printer(second),
+            LinePart::Bytes(b"; "),
+        ],
+    )
 }
 
 /// Puts the line on so many registers of these names, which differ when a time passes, behind a text, with this before the names.

@@ -6,15 +6,15 @@ ghost use Rattle.verdict.specs.Verdicts.{asked_text, claim_text, endless_text, e
 
 use crate::claim::{Claim, SampledOrders, SearchStop};
 use crate::endings::{RunEndings, push_endings};
+use crate::parts::{LinePart, push_parts};
 use crate::phrases::{
-    push_count, push_number, push_states, push_stop, push_stop_phrase, push_these_lines, push_up_to,
+    push_count, push_number, push_states, push_stop, push_stop_phrase, push_these_lines,
 };
-use crate::race::push_journal;
 use crate::stops::{StopDescription, has_stops, push_stops};
 use std::alloc::AllocError;
 
 /// The texts that were found, and what they are among those of all lawful runs.
-#[derive(Clone, Copy, Debug)]
+#[derive(Clone, Copy)]
 pub struct Verdict<'a> {
     pub claim: Claim,
     /// The last time of the runs, if there is one.
@@ -187,11 +187,16 @@ pub(crate) fn push_none(
 ) -> Result<(), AllocError>
     ensures { OnOk result (text.new.items ≡ text.old.items ++ none_every until endless (option_map (λ path. path.now) prefix.entry)) }
 {
-    text.extend_from_slice(b": no lawful run")?;
-    push_up_to(text, until)?;
-    text.extend_from_slice(b" comes to an end")?;
-    push_journal(text, prefix, endless)?;
-    text.extend_from_slice(b"\n")
+    push_parts(
+        text,
+        &[
+            LinePart::Bytes(b": no lawful run"),
+            LinePart::UpTo(until),
+            LinePart::Bytes(b" comes to an end"),
+            LinePart::Journal(prefix, endless),
+            LinePart::Bytes(b"\n"),
+        ],
+    )
 }
 
 /// That some lawful runs don't come to an end, where one is known, and where its journal is saved, if it is.
@@ -203,11 +208,14 @@ pub(crate) fn push_endless(
     ensures { OnOk result (text.new.items ≡ text.old.items ++ endless_text endless (option_map (λ path. path.now) prefix.entry)) }
 {
     match endless {
-        Some(_) => {
-            text.extend_from_slice(b"some lawful runs don't come to an end")?;
-            push_journal(text, prefix, endless)?;
-            text.extend_from_slice(b"\n")
-        }
+        Some(_) => push_parts(
+            text,
+            &[
+                LinePart::Bytes(b"some lawful runs don't come to an end"),
+                LinePart::Journal(prefix, endless),
+                LinePart::Bytes(b"\n"),
+            ],
+        ),
         None => Ok(()),
     }
 }
@@ -222,9 +230,14 @@ fn push_one(
     ensures { OnOk result (text.new.items ≡ text.old.items ++ one_every states verdict.entry.now.until verdict.entry.now.endings verdict.entry.now.first.now verdict.entry.now.stops.now endless (option_map (λ path. path.now) verdict.entry.now.prefix)) }
 {
     let some = has_stops(verdict.stops);
-    text.extend_from_slice(every_or_none(some))?;
-    push_up_to(text, verdict.until)?;
-    text.extend_from_slice(run_prints(some))?;
+    push_parts(
+        text,
+        &[
+            LinePart::Bytes(every_or_none(some)),
+            LinePart::UpTo(verdict.until),
+            LinePart::Bytes(run_prints(some)),
+        ],
+    )?;
     push_these_lines(text, verdict.first)?;
     push_states(text, states)?;
     push_endings(text, verdict.endings, some, verdict.until)?;
@@ -263,10 +276,15 @@ pub(crate) fn push_many(
     ensures { OnOk result (text.new.items ≡ text.old.items ++ many_every verdict.entry.now.until verdict.entry.now.ends verdict.entry.now.endings word.now verdict.entry.now.stops.now endless (option_map (λ path. path.now) verdict.entry.now.prefix)) }
 {
     let some = has_stops(verdict.stops);
-    text.extend_from_slice(b": every lawful run")?;
-    push_up_to(text, verdict.until)?;
-    text.extend_from_slice(run_that_ends(some))?;
-    text.extend_from_slice(one_of_them(verdict.ends))?;
+    push_parts(
+        text,
+        &[
+            LinePart::Bytes(b": every lawful run"),
+            LinePart::UpTo(verdict.until),
+            LinePart::Bytes(run_that_ends(some)),
+            LinePart::Bytes(one_of_them(verdict.ends)),
+        ],
+    )?;
     push_endings(text, verdict.endings, some, verdict.until)?;
     push_stops(text, word, verdict.prefix, verdict.stops)?;
     push_endless(text, endless, verdict.prefix)

@@ -7,14 +7,15 @@ ghost use Rattle.verdict.specs.Verdicts.{many_every, sampled_text, so_far_text};
 
 use crate::claim::{Claim, SampledOrders, SearchStop};
 use crate::endings::{RunEndings, push_endings};
-use crate::phrases::{push_between, push_number, push_states, push_up_to};
-use crate::race::{push_journal, push_quoted};
+use crate::parts::{LinePart, push_parts};
+use crate::phrases::{push_between, push_number, push_states};
+use crate::race::push_quoted;
 use crate::stops::{StopDescription, has_stops, push_stops};
 use crate::verdict::{Verdict, push_endless, push_many, push_none, push_sampled, push_so_far};
 use std::alloc::AllocError;
 
 /// The waves that were found, and what they are among those of all lawful runs.
-#[derive(Clone, Copy, Debug)]
+#[derive(Clone, Copy)]
 pub struct WaveVerdict<'a> {
     pub claim: Claim,
     /// The last time of the runs, if there is one.
@@ -36,7 +37,7 @@ pub struct WaveVerdict<'a> {
 }
 
 /// In what a wave parts first from the first one: in a register when a time passes, in a line, in the time that passes, or in its end alone.
-#[derive(Clone, Copy, Debug)]
+#[derive(Clone, Copy)]
 pub enum WaveSite<'a> {
     Register { name: &'a str, time: &'a [u8] },
     Line,
@@ -45,7 +46,7 @@ pub enum WaveSite<'a> {
 }
 
 /// A wave that isn't the first one: its number, in what it parts first from that, and what stands there in each.
-#[derive(Clone, Copy, Debug)]
+#[derive(Clone, Copy)]
 pub struct WaveDescription<'a> {
     pub number: usize,
     pub prefix: Option<&'a str>,
@@ -79,14 +80,19 @@ fn push_wave_site(text: &mut Vec<u8>, site: WaveSite<'_>) -> Result<(), AllocErr
 }
 
 /// Puts behind a text that a wave parts from the first one in a register when a time passes.
-fn push_register(text: &mut Vec<u8>, name: &str, time: &[u8]) -> Result<(), AllocError>
+fn push_register<'a>(text: &mut Vec<u8>, name: &'a str, time: &'a [u8]) -> Result<(), AllocError>
     ensures { OnOk result (text.new.items ≡ text.old.items ++ register_parting_text name.now time.now) }
 {
-    text.extend_from_slice(b" parts from wave 1 in register ")?;
-    text.extend_from_slice(name.as_bytes())?;
-    text.extend_from_slice(b" when time ")?;
-    text.extend_from_slice(time)?;
-    text.extend_from_slice(b" passes\n")
+    push_parts(
+        text,
+        &[
+            LinePart::Bytes(b" parts from wave 1 in register "),
+            LinePart::Bytes(name.as_bytes()),
+            LinePart::Bytes(b" when time "),
+            LinePart::Bytes(time),
+            LinePart::Bytes(b" passes\n"),
+        ],
+    )
 }
 
 /// Puts what stands in both waves behind a text, unless they differ in their ends alone.
@@ -116,10 +122,15 @@ fn push_side(
 ) -> Result<(), AllocError>
     ensures { OnOk result (text.new.items ≡ text.old.items ++ side_text (option_map (λ path. path.now) prefix.entry) number line.now) }
 {
-    text.extend_from_slice(b"  in wave ")?;
-    push_number(text, number as u64)?;
-    push_journal(text, prefix, Some(number))?;
-    text.extend_from_slice(b" it")?;
+    push_parts(
+        text,
+        &[
+            LinePart::Bytes(b"  in wave "),
+            LinePart::Number(number as u64),
+            LinePart::Journal(prefix, Some(number)),
+            LinePart::Bytes(b" it"),
+        ],
+    )?;
     push_quoted(text, line)
 }
 
@@ -220,9 +231,14 @@ fn push_one_wave(
     ensures { OnOk result (text.new.items ≡ text.old.items ++ one_wave states verdict.entry.now.until verdict.entry.now.all verdict.entry.now.registers verdict.entry.now.lines verdict.entry.now.endings verdict.entry.now.stops.now endless (option_map (λ path. path.now) verdict.entry.now.prefix)) }
 {
     let some = has_stops(verdict.stops);
-    text.extend_from_slice(in_every_or_none(some))?;
-    push_up_to(text, verdict.until)?;
-    text.extend_from_slice(run_has(some))?;
+    push_parts(
+        text,
+        &[
+            LinePart::Bytes(in_every_or_none(some)),
+            LinePart::UpTo(verdict.until),
+            LinePart::Bytes(run_has(some)),
+        ],
+    )?;
     push_same(text, verdict.all, verdict.registers, verdict.lines)?;
     push_states(text, states)?;
     push_endings(text, verdict.endings, some, verdict.until)?;

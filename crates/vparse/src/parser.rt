@@ -11,7 +11,7 @@ ghost use Rattle.vparse.specs.Spells.{Spells, IsUnspelledAt, IsDeepText, IsDeepT
 ghost use Rattle.vparse.specs.TextFaults.{of_cut, of_tokens, is_syntax};
 
 use crate::nesting::too_deep;
-use grammar::{Cursor, GrammarFault, Rules, parse_source};
+use grammar::{Cursor, GrammarFault, Rules, discard, parse_source};
 use model::tree::Module;
 use std::alloc::Global;
 use thiserror::Error;
@@ -61,6 +61,7 @@ fn read_module(alloc: Global, tokens: &[Token<'_>]) -> Result<Module, Misfit>
         }),
         Ok(found) => {
             if let Some(left) = stop {
+                discard(found);
                 return Err(Misfit {
                     fault: GrammarFault::Deep,
                     token: number(tokens.len(), left),
@@ -72,7 +73,7 @@ fn read_module(alloc: Global, tokens: &[Token<'_>]) -> Result<Module, Misfit>
 }
 
 /// Why a text is refused. Bytes are counted from 0 and tokens from 1; the end of the text counts as the last token.
-#[derive(Clone, Copy, Debug, PartialEq, Eq, Error)]
+#[derive(Clone, Copy, Debug, Error)]
 pub enum ParseFault {
     /// No token, space or comment begins at this byte, or a string or comment that begins here is unfinished or holds
     /// what it may not.

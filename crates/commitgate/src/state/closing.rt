@@ -9,7 +9,6 @@ use crate::context::Context;
 use crate::naming::Naming;
 use crate::seat::Seat;
 use crate::state::GateState;
-use runstate::RunState;
 use std::sync::Wait;
 
 impl<'d, K: Naming> GateState<'d, K> {
@@ -38,16 +37,7 @@ impl<'d, K: Naming> GateState<'d, K> {
             spare: _,
             of: _,
         } = self;
-        let RunState {
-            design: _,
-            limits: _,
-            regions: _,
-            holder: _,
-            journal,
-            made,
-            end: _,
-            whole: _,
-        } = run_state;
-        Closed::new(journal, made.lines, end, committed)
+        let left = run_state.leave();
+        Closed::new(left.0, left.1, end, committed)
     }
 }

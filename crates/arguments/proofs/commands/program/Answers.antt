@@ -7,9 +7,8 @@ use Rattle.arguments.proofs.commands.program.Goals as goal
 
 pub loop-task-preserved : goal.loop-task-preserved
 loop-task-preserved c =
-    task_more c.every-tasks.result.now c.loop-task.task-index _ c.loop-task.whole c.in_ok-whole.whole c.in_ok-next.next
-    (take_more c.every-tasks.result.now c.loop-task.task-index _ c.loop-task-test.true) c.in_ok-next.ensures.rules c.in_ok-next.ensures.app c.in_ok-whole.ensures
-    c.loop-task.invariant
+    task_more c.every-tasks.result.now c.loop-task.task-index _ c.loop-task.whole c.in_ok-whole.whole
+    (take_more c.every-tasks.result.now c.loop-task.task-index _ c.loop-task-test.true) c.in_ok-whole.ensures c.loop-task.invariant
 
 pub returns : goal.returns
 returns c =

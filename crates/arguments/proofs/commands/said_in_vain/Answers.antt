@@ -5,4 +5,4 @@ use Rattle.clap.specs.declared.error.kind.ErrorKind.{ErrorKind}
 use Rattle.arguments.proofs.commands.said_in_vain.Goals as goal
 
 pub returns : goal.returns
-returns c = subst (λ (k : ErrorKind). IfOk c.error.result (λ e. kind_of e ≡ k)) c.kind.ensures c.error.ensures.kind
+returns c = subst (λ (k : ErrorKind). IfOk c.said.result (λ e. kind_of e ≡ k)) c.kind.ensures c.said.ensures

@@ -1,8 +1,7 @@
--- At the beginning all rows are left.
-use Rattle.std.proofs.Common.{refl}
+-- The rows of the program's table are those of the definition's.
 use Rattle.diagnosis.specs.LackedWords.{lacked_words}
 use Rattle.diagnosis.proofs.words.advice_in_table.Goals as goal
 
-pub loop-left-init : goal.loop-left-init
+pub returns : goal.returns
 unfolding lacked_words
-loop-left-init c = refl
+returns c = c.advice_in.ensures

@@ -1,4 +1,4 @@
-use Rattle.std.proofs.Common.{◌≡◌, [], None, map, sym, ap, subst, ◌∙◌, rules}
+use Rattle.std.proofs.Common.{◌≡◌, [], None, map, ap, subst, ◌∙◌, rules}
 use Rattle.model.specs.Elaboration.{declared}
 use Rattle.model.specs.SourceTrees as trees
 use Rattle.model.specs.SourceTrees.{module_of, declaration_of}

@@ -1,10 +1,9 @@
-use Rattle.std.proofs.Common.{◌≡◌, ◌≤◌, ◌++◌, [], List, length, get_or, false, IsTrue}
+use Rattle.std.proofs.Common.{◌≡◌, ◌++◌, [], List, length, get_or, false, IsTrue}
 use Rattle.std.specs.List.{All}
 use Rattle.explore.specs.declared.Successor.{Successor}
-use Rattle.explore.specs.SearchKept.{AreKept, Grows, LeadsOn, StayUnmarked}
+use Rattle.explore.specs.SearchKept.{AreKeptWell, Grows, LeadsOn, StayUnmarked}
 use Rattle.explore.specs.Search.{IsSuccessor}
 use Rattle.explore.specs.Lineage.{ways}
-use Rattle.explore.specs.Reach.{AreTimed}
 use Rattle.explore.proofs.kept.follow_all.Given as goal
 
 abbrev pub invariant-loop-next : goal.invariant-loop-next
@@ -12,10 +11,8 @@ invariant-loop-next g l =
     let runs = g.O.Orders.runs l.scope.orders.now in
     let way = get_or (ways l.fn.kept.lineage) l.from.number [] in
     record {
-      kept : AreKept runs (g.O.Orders.has_key l.scope.orders.now) l.kept;
-      timed : AreTimed runs (g.O.Orders.time_of l.scope.orders.now) (ways l.kept.lineage) l.kept.links.times.items;
+      well : AreKeptWell runs (g.O.Orders.has_key l.scope.orders.now) (g.O.Orders.time_of l.scope.orders.now) l.scope.bounds.nodes l.kept;
       grows : Grows l.fn.kept l.kept;
-      room : length (ways l.kept.lineage) ≤ l.scope.bounds.nodes;
       unmarked : StayUnmarked l.fn.kept l.kept;
       full : l.all ≡ false → length (ways l.kept.lineage) ≡ l.scope.bounds.nodes;
       left : All (IsSuccessor runs way) l.left.items;

@@ -22,10 +22,13 @@ abbrev pub decreases-parse_list : goal.decreases-parse_list
 decreases-parse_list l = 5 * l.budget + 1
 
 abbrev pub decreases-parse_parenthesized : goal.decreases-parse_parenthesized
-decreases-parse_parenthesized l = 5 * l.budget + 1
+decreases-parse_parenthesized l = 5 * l.budget + 2
+
+abbrev pub decreases-parse_closed : goal.decreases-parse_closed
+decreases-parse_closed l = 5 * l.budget + 1
 
 abbrev pub decreases-parse_conditional : goal.decreases-parse_conditional
-decreases-parse_conditional l = 5 * l.budget + 1
+decreases-parse_conditional l = 5 * l.budget + 2
 
 abbrev pub decreases-parse_operators : goal.decreases-parse_operators
 decreases-parse_operators l = 5 * l.budget + 1

@@ -1,34 +1,8 @@
--- What was taken, and what is held settles.
-use Rattle.std.proofs.Common.{sym, subst}
-use Rattle.design.specs.Compiled.{Compiled}
-use Rattle.combinational.specs.Found.{IsNetworkOf}
-use Rattle.loose.specs.Classes.{class_in}
-use Rattle.loosewalks.specs.Held.{IsHeldStart, HasHeld}
-use Rattle.loosewalks.proofs.GoingOn.{found_there, held_rests}
+-- What was taken from where processes were held.
+use Rattle.loosewalks.specs.Held.{IsHeldStart}
+use Rattle.loosewalks.proofs.GoingOn.{found_there}
 use Rattle.loosewalks.proofs.held.take_held_until_settled.Goals as goal
 
-pub take_from-requires : goal.take_from-requires
-take_from-requires c =
+pub settle_from-all-requires-clause-start : goal.settle_from-all-requires-clause-start
+settle_from-all-requires-clause-start c =
     found_there _ c.in-Some.start (IsHeldStart c.args.machine.now c.args.holding.scope.network.now c.args.holding.held.now) c.in-Some.is c.in_ok-start.ensures
-
-pub settle_since-requires : goal.settle_since-requires
-settle_since-requires c =
-    record { found = subst (λ (k : Compiled). IsNetworkOf k c.args.holding.scope.network.now) (sym c.take_from.ensures.code) c.requires }
-
-pub members_settled_since-requires : goal.members_settled_since-requires
-members_settled_since-requires c =
-    record { found = subst (λ (k : Compiled). IsNetworkOf k c.args.holding.scope.network.now) (sym c.take_from.ensures.code) c.requires }
-
-pub returns-then-branch-clause-done : goal.returns-then-branch-clause-done
-returns-then-branch-clause-done c = λ on limits may.
-    let old = c.args.machine.now in
-    let network = c.args.holding.scope.network.now in
-    let held = c.args.holding.held.now in
-    let begun : IsHeldStart old network held c.in-Some.start = found_there _ c.in-Some.start (IsHeldStart old network held) c.in-Some.is c.in_ok-start.ensures in
-    let through : HasHeld (class_in c.args.holding.scope.rules.classes.now) limits old network held c.take_from.new.room.way.items c.take_from.new.machine =
-    c.in_ok-take_from.ensures.done c.if-not-branch.false limits may in
-    record {
-      through = through;
-      settle = λ time.
-          c.in_ok-settle_since.ensures c.if-branch.true old (held_rests c.in-Some.start.begin old c.take_from.new.machine network held begun.begins may (sym c.take_from.ensures.code) time through.passed.over);
-    }

@@ -48,27 +48,51 @@ fn assert_both_orders(
     assert_value(rt, copy, 0);
 }
 
-/// A run and its copy go on apart.
-pub(super) fn assert_apart(rt: &impl Abort, alloc: Global, run: &mut Machine<'_>) {
-    let mut copy = run.copy(alloc).expect(rt, "memory");
-    assert_both_orders(rt, alloc, run, &mut copy);
-}
-
 // These lines were printed since they were last taken out.
 fn assert_lines(rt: &impl Abort, run: &mut Machine<'_>, wanted: &str) {
     let lines = run.take_lines();
     assert_text(rt, &lines, wanted);
 }
 
-/// A run gives the lines of each entry, and its copy has those that weren't taken out.
-pub(super) fn assert_printed(rt: &impl Abort, alloc: Global, run: &mut Machine<'_>) {
-    apply(rt, run, T0);
-    let mut copy = run.copy(alloc).expect(rt, "memory");
+// A run gives the lines of each entry, and its copy has those that weren't taken out.
+fn assert_lines_apart(rt: &impl Abort, run: &mut Machine<'_>, copy: &mut Machine<'_>) {
     assert_lines(rt, run, "first\n");
     assert_lines(rt, run, "");
     apply_all(rt, run, &[A1, T1]);
     assert_lines(rt, run, "second\n");
-    assert_lines(rt, &mut copy, "first\n");
+    assert_lines(rt, copy, "first\n");
+}
+
+/// What is known of a run and its copy: they take two turns, each in another order, or each has lines of its own.
+#[derive(Clone, Copy)]
+pub(super) enum KnownCopy {
+    Orders,
+    Lines,
+}
+
+// This is known of a run and its copy.
+fn assert_known_copy(
+    rt: &impl Abort,
+    alloc: Global,
+    run: &mut Machine<'_>,
+    copy: &mut Machine<'_>,
+    known: KnownCopy,
+) {
+    match known {
+        KnownCopy::Orders => assert_both_orders(rt, alloc, run, copy),
+        KnownCopy::Lines => assert_lines_apart(rt, run, copy),
+    }
+}
+
+/// This is known of a run and its copy, which go on apart.
+pub(super) fn assert_apart(
+    rt: &impl Abort,
+    alloc: Global,
+    run: &mut Machine<'_>,
+    known: KnownCopy,
+) {
+    let mut copy = run.copy(alloc).expect(rt, "memory");
+    assert_known_copy(rt, alloc, run, &mut copy, known);
 }
 
 /// What is due, and the evaluations that were made, after some entries of the swap.

@@ -1,4 +1,4 @@
-use Rattle.std.proofs.Common.{[], ◌∷◌, reverse, refl, sym, ap}
+use Rattle.std.proofs.Common.{rules, [], ◌∷◌, ◌∙◌, reverse, refl, sym, ap}
 use Rattle.design.specs.ExpressionSteps.{below}
 use Rattle.turn.specs.Evaluate.{vectors}
 use Rattle.turn.proofs.Runs.{ran_first, ran_empty}
@@ -17,3 +17,23 @@ pub returns-in-None-clause-value : goal.returns-in-None-clause-value
 returns-in-None-clause-value g c = λ all.
     let st = c.pop-stack.result ∷ [] in
     (st, (st, (refl, ran_empty c.args.ops.now c.args.memory.now.known c.args.memory.now.reads.entries st c.in-None.ensures.cases)))
+
+pub returns-in_ok-go_on-in-Some-clause-reads : goal.returns-in_ok-go_on-in-Some-clause-reads
+returns-in_ok-go_on-in-Some-clause-reads g c =
+    let first = c.in_ok-start-in-Some.ensures.reads in
+    let others = c.in_ok-go_on-in-Some.ensures.reads in
+    record {
+      gave = λ had. others.gave (first.gave had);
+      keeps = λ r s h. others.keeps r s (first.keeps r s h);
+      lasting = others.lasting ∙ first.lasting;
+    }
+
+pub returns-in_err-go_on-in-Some-clause-reads : goal.returns-in_err-go_on-in-Some-clause-reads
+returns-in_err-go_on-in-Some-clause-reads g c =
+    let first = c.in_ok-start-in-Some.ensures.reads in
+    let others = c.in_err-go_on-in-Some.ensures.reads in
+    record {
+      gave = search rules;
+      keeps = λ r s h. others.keeps r s (first.keeps r s h);
+      lasting = others.lasting ∙ first.lasting;
+    }

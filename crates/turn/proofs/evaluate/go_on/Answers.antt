@@ -1,4 +1,4 @@
-use Rattle.std.proofs.Common.{◌∙◌}
+use Rattle.std.proofs.Common.{rules, ◌∙◌}
 use Rattle.turn.proofs.Runs.{ran_more}
 use Rattle.turn.proofs.evaluate.go_on.Goals as goal
 
@@ -9,3 +9,14 @@ loop-op-preserved g c = record {
   keeps = λ r s h. c.in_ok-step.ensures.reads.keeps r s (c.loop-op.invariant.keeps r s h);
   lasting = c.in_ok-step.ensures.reads.lasting ∙ c.loop-op.invariant.lasting;
 }
+
+pub returns-in_err-step-clause-reads : goal.returns-in_err-step-clause-reads
+returns-in_err-step-clause-reads g c =
+    record {
+      gave = search rules;
+      keeps = λ r s h. c.in_err-step.ensures.reads.keeps r s (c.loop-op.invariant.keeps r s h);
+      lasting = c.in_err-step.ensures.reads.lasting ∙ c.loop-op.invariant.lasting;
+    }
+
+pub returns-clause-reads : goal.returns-clause-reads
+returns-clause-reads g c = record { gave = c.loop-op.invariant.gave; keeps = c.loop-op.invariant.keeps; lasting = c.loop-op.invariant.lasting }

@@ -15,13 +15,10 @@ returns c =
     let ends = run_that_ends (has_stops verdict.stops.now) in
     let endings = endings_text verdict.endings (has_stops verdict.stops.now) verdict.until in
     let begun : List ℕ = codes ": every lawful run" in
-    let two = joined c.push_up_to.new.text.items old begun c.extend_from_slice.new.self.items until c.in_ok-push_up_to.ensures c.in_ok-extend_from_slice.ensures.items in
-    let said = subst (λ (l : List ℕ). c.extend_from_slice-2.new.self.items ≡ c.push_up_to.new.text.items ++ l) (c.run_that_ends.ensures ∙ ap run_that_ends c.has_stops-some.ensures) c.in_ok-extend_from_slice-2.ensures.items in
-    let three = joined c.extend_from_slice-2.new.self.items old (begun ++ until) c.push_up_to.new.text.items ends said two in
-    let more = subst (λ (l : List ℕ). c.extend_from_slice-3.new.self.items ≡ c.extend_from_slice-2.new.self.items ++ l) c.one_of_them.ensures c.in_ok-extend_from_slice-3.ensures.items in
-    let four = joined c.extend_from_slice-3.new.self.items old (begun ++ until ++ ends) c.extend_from_slice-2.new.self.items (one_of_them verdict.ends) more three in
-    let ended = subst (λ (b : Bool). c.push_endings.new.text.items ≡ c.extend_from_slice-3.new.self.items ++ endings_text verdict.endings b verdict.until) c.has_stops-some.ensures c.in_ok-push_endings.ensures in
-    let five = joined c.push_endings.new.text.items old (begun ++ until ++ ends ++ one_of_them verdict.ends) c.extend_from_slice-3.new.self.items endings ended four in
+    let two = subst (λ (l : List ℕ). c.push_parts.new.text.items ≡ old ++ (begun ++ until ++ l ++ c.one_of_them.result.now)) (c.run_that_ends.ensures ∙ ap run_that_ends c.has_stops-some.ensures) c.in_ok-push_parts.ensures in
+    let four = subst (λ (l : List ℕ). c.push_parts.new.text.items ≡ old ++ (begun ++ until ++ ends ++ l)) c.one_of_them.ensures two in
+    let ended = subst (λ (b : Bool). c.push_endings.new.text.items ≡ c.push_parts.new.text.items ++ endings_text verdict.endings b verdict.until) c.has_stops-some.ensures c.in_ok-push_endings.ensures in
+    let five = joined c.push_endings.new.text.items old (begun ++ until ++ ends ++ one_of_them verdict.ends) c.push_parts.new.text.items endings ended four in
     let six = joined c.push_stops.new.text.items old (begun ++ until ++ ends ++ one_of_them verdict.ends ++ endings) c.push_endings.new.text.items stops c.in_ok-push_stops.ensures five in
     joined_if_ok c.push_endless.result c.push_endless.new.text.items old (begun ++ until ++ ends ++ one_of_them verdict.ends ++ endings ++ stops) c.push_stops.new.text.items
     (endless_text c.args.endless prefix) c.push_endless.ensures six

@@ -19,4 +19,4 @@ new-state-requires g c =
     let named = c.self.view_is ∙ c.requires in
     let b = subst (λ (n : Named). IsBlank n (vec_capacity c.self.inside.committed) c.self.inside.committed.items c.self.inside.seats.items p) named c.self.invariant in
     stands_first g.K.Naming.named (vec_capacity c.self.inside.committed) c.self.inside.committed.items c.self.inside.seats.items p c.seat_all.new.whole
-    b c.in_ok-seats.ensures.marks c.in_ok-seats.ensures.whole
+    b c.seat_all.ensures.marks c.seat_all.ensures.whole

@@ -1,22 +1,28 @@
--- What was noted is told once the entry is taken.
-use Rattle.std.proofs.Common.{refl, sym, ◌∙◌, subst}
-use Rattle.steps.specs.Accounts.{account_of}
-use Rattle.steps.specs.ExplainerStanding.{Standing, standing_of, IsExplainerBehind, IsExplained}
-use Rattle.steps.proofs.Stepped.{step_kept, step_told}
+-- An entry is told of where the explainer stands.
+use Rattle.std.proofs.Common.{◌≡◌, ◌+◌, ◌<◌, List, subst}
+use Rattle.std.specs.Prelude.{OnOk, OnErr, IfErr}
+use Rattle.model.specs.declared.entry.Entry.{Entry}
+use Rattle.regions.specs.Machine.{most_entries, state_at}
+use Rattle.steps.specs.ExplainerStanding.{Standing, standing_of, IsExplainerBehind, IsExplained, IsNotExplained}
 use Rattle.steps.proofs.explainer.Explainer.step.Goals as goal
 
-pub invariant_of-self-2 : goal.invariant_of-self-2
-invariant_of-self-2 c =
-    let m = c.self.inside in
-    step_kept m.machine c.take_noted.new.machine c.take_lines.new.self c.args.entry c.take_noted.ensures.code c.take_lines.ensures.rest c.in-Ok-take_noted.ensures.taken
-    c.note.new.cells.items (c.note.ensures.registers ∙ c.self.invariant.registers) c.in-Ok.ensures.sound
-
 pub returns-clause-told : goal.returns-clause-told
-returns-clause-told c = λ journal behind.
-    let m = c.self.inside in
-    let told = record c.note.new.told { lines = c.take_lines.result; time = c.time-self-inside.result } in
-    subst (λ (x : Standing). IsExplained journal c.args.entry x (standing_of c.take_lines.new.self c.note.new.cells.items told)) c.self.view_is
-    (step_told m.machine c.take_noted.new.machine c.take_lines.new.self c.args.entry c.take_noted.ensures.code c.take_lines.ensures.rest c.in-Ok-take_noted.ensures.taken
-    journal m.cells.items c.note.new.cells.items (account_of m.told) (account_of c.note.new.told) (account_of told) c.in-Ok.ensures.noted
-    (record { actor = refl; reads = refl; changes = refl; assigned = refl }) c.take_lines.ensures.lines c.time-self-inside.ensures
-    (subst (λ (x : Standing). IsExplainerBehind journal x) (sym c.self.view_is) behind))
+returns-clause-told c =
+    let new = standing_of c.take_told.new.machine c.take_told.new.cells.items c.take_told.new.told in
+    subst (λ (x : Standing). OnOk c.take_told.result ((journal : List Entry) → IsExplainerBehind journal x → IsExplained journal c.args.entry x new)) c.self.view_is c.take_told.ensures.told
+
+pub returns-clause-entries : goal.returns-clause-entries
+returns-clause-entries c =
+    subst (λ (x : Standing). OnOk c.take_told.result (c.take_told.new.machine.core.entries ≡ x.position.core.entries + 1)) c.self.view_is c.take_told.ensures.entries
+
+pub returns-clause-few : goal.returns-clause-few
+returns-clause-few c = subst (λ (x : Standing). OnOk c.take_told.result (x.position.core.entries < most_entries)) c.self.view_is c.take_told.ensures.few
+
+pub returns-clause-code : goal.returns-clause-code
+returns-clause-code c = subst (λ (x : Standing). c.take_told.new.machine.code ≡ x.position.code) c.self.view_is c.take_told.ensures.code
+
+pub returns-clause-fault : goal.returns-clause-fault
+returns-clause-fault c = subst (λ (x : Standing). IfErr c.take_told.result (IsNotExplained x.position c.args.entry)) c.self.view_is c.take_told.ensures.fault
+
+pub returns-clause-err : goal.returns-clause-err
+returns-clause-err c = subst (λ (x : Standing). OnErr c.take_told.result (state_at c.take_told.new.machine ≡ state_at x.position)) c.self.view_is c.take_told.ensures.err
