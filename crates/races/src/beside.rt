@@ -32,6 +32,11 @@ fn next_advance(journal: &[Entry], from: usize) -> usize {
     journal.len()
 }
 
+/// Whether a time passes in a journal from a place on.
+pub(crate) fn advances_from(journal: &[Entry], from: usize) -> bool {
+    next_advance(journal, from) < journal.len()
+}
+
 impl<'a> Followed<'a> {
     // At the start of a journal.
     fn start(

@@ -8,7 +8,7 @@ ghost use Rattle.runs.specs.Compared.{AreLike};
 ghost use Rattle.runs.specs.RunRecords.{IsRun};
 ghost use Rattle.races.specs.Unseen.{ComeInBothOrders, DifferByPair, DifferWhenPassing, IsUnseen, PassesBefore, PassesIn, StandsInRun, is_at_rest, is_stopped_at_rest, other_values, with_register};
 
-use crate::beside::{Passing, first_parting};
+use crate::beside::{Passing, advances_from, first_parting};
 use crate::race_search::RaceSearch;
 use accesses::{Pair, lead};
 use conflicts::{Conflict, has_both_orders};
@@ -309,8 +309,21 @@ fn told_difference(
     Ok(with_pair(found, pair))
 }
 
+// Whether a time may pass behind the entries that the second run of a conflict has in common with the first run: one passes in one of the two, or
+// they end otherwise than by `$finish`, behind which none does (17.4.1).
+fn may_pass_behind(task: RaceSearch<'_>, conflict: &Conflict, exchanged: &RunRecord) -> bool {
+    let from = conflict.pair.earlier;
+    match exchanged.end {
+        End::Stopped(Why::Finish) => {
+            advances_from(task.original.journal.as_slice(), from)
+                || advances_from(exchanged.journal.as_slice(), from)
+        }
+        _ => true,
+    }
+}
+
 // The first difference of the second run of a conflict from the first run when a time passes, with the two entries. The entries of both runs are
-// taken off those that are left.
+// taken off those that are left, unless none may pass behind what the two have in common.
 fn difference_by(
     task: RaceSearch<'_>,
     conflict: &Conflict,
@@ -319,6 +332,9 @@ fn difference_by(
 ) -> Result<Option<UnseenDifference>, AllocError>
     ensures { IfOk result (λ found. IfSome found (DifferByPair task.entry.design.now task.entry.original.now exchanged.now)) }
 {
+    if !may_pass_behind(task, conflict, exchanged) {
+        return Ok(None);
+    }
     match difference_beside(task, exchanged, left)? {
         Some(found) => Ok(Some(told_difference(task, conflict, exchanged, found)?)),
         None => Ok(None),
