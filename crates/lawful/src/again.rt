@@ -95,7 +95,7 @@ fn go_again(
 /// once, so that it fails only where memory is refused.
 pub(crate) fn again<'d>(
     alloc: Global,
-    room: &mut SearchRoom,
+    room: &mut SearchRoom<'_>,
     from: &Machine<'d>,
     classes: &[u32],
     moves: &[LooseTransition],

@@ -60,11 +60,11 @@ fn are_within(limits: Limits, entries: u64, ways: &[Vec<LooseTransition>]) -> bo
 
 /// Ways by parts that stand for all loose runs from where a machine stands, where no way leads past the most entries that a run may have.
 /// None where no such ways are found.
-pub(crate) fn parts_within(
-    room: &mut PartsRoom,
+pub(crate) fn parts_within<'d>(
+    room: &mut PartsRoom<'d>,
     classes: &[u32],
     limits: Limits,
-    machine: &Machine<'_>,
+    machine: &Machine<'d>,
 ) -> Result<Option<CoveringWays>, AllocError>
     requires { IsInOrder (state_at machine.now) }
     ensures { IfOk result (λ found. IfSome found (StandForAll (class_in classes.now) limits machine.now)) }

@@ -22,7 +22,7 @@ use std::alloc::{AllocError, Global};
 // Whether the states of two machines of one design are alike in these classes, as far as their class keys tell.
 fn stand_alike(
     alloc: Global,
-    room: &mut SearchRoom,
+    room: &mut SearchRoom<'_>,
     one: &Machine<'_>,
     other: &Machine<'_>,
     classes: &[u32],

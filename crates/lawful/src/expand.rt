@@ -234,7 +234,7 @@ fn branch<'d>(
 // that.
 fn follow<'d>(
     scope: ExpandScope<'_>,
-    room: &mut SearchRoom,
+    room: &mut SearchRoom<'d>,
     machine: Box<Machine<'d>>,
 ) -> Result<LooseWays<'d>, AllocError>
     requires order { IsInOrder (state_at machine.value) }
@@ -274,7 +274,7 @@ fn arrive<'d>(
 fn walk_with(
     scope: ExpandScope<'_>,
     analyzed_design: &AnalyzedDesign<'_>,
-    room: &mut SearchRoom,
+    room: &mut SearchRoom<'_>,
     machine: &mut Machine<'_>,
 ) -> Result<Vec<LooseTransition>, AllocError>
     requires code { machine.old.code ≡ analyzed_design.now }
@@ -304,7 +304,7 @@ fn walk_with(
 pub(crate) fn expand<'d>(
     scope: ExpandScope<'_>,
     analyzed_design: &AnalyzedDesign<'_>,
-    room: &mut SearchRoom,
+    room: &mut SearchRoom<'d>,
     machine: Box<Machine<'d>>,
 ) -> Result<LooseWays<'d>, AllocError>
     requires code { machine.value.code ≡ analyzed_design.now }

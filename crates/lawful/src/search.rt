@@ -75,7 +75,7 @@ impl<'a, 'd, T: RunTelling> LooseRuns<'a, 'd, T> {
     fn ways(
         &self,
         alloc: Global,
-        room: &mut SearchRoom,
+        room: &mut SearchRoom<'d>,
         node: LooseNode<'d>,
     ) -> Result<LooseWays<'d>, AllocError>
         requires { IsReached (searched_runs self.now.analyzed_design (class_in self.now.classes.items) self.now.limits) node }
@@ -94,7 +94,7 @@ impl<'a, 'd, T: RunTelling> LooseRuns<'a, 'd, T> {
     fn told_ways(
         &self,
         alloc: Global,
-        room: &mut SearchRoom,
+        room: &mut SearchRoom<'d>,
         tail: &TextTail,
         seen: &[u8],
         node: LooseNode<'d>,
@@ -115,7 +115,7 @@ impl<'a, 'd, T: RunTelling> Orders for LooseRuns<'a, 'd, T> {
 
     type End = T::End;
 
-    type Room = SearchRoom;
+    type Room = SearchRoom<'d>;
 
     ghost runs = { λ o. T.runs o.telling.now o.analyzed_design (class_in o.classes.items) o.limits };
 
@@ -133,7 +133,7 @@ impl<'a, 'd, T: RunTelling> Orders for LooseRuns<'a, 'd, T> {
         })
     }
 
-    fn room(&self, alloc: Global) -> SearchRoom {
+    fn room(&self, alloc: Global) -> SearchRoom<'d> {
         SearchRoom::new(alloc)
     }
 
@@ -141,7 +141,7 @@ impl<'a, 'd, T: RunTelling> Orders for LooseRuns<'a, 'd, T> {
     fn expand(
         &self,
         alloc: Global,
-        room: &mut SearchRoom,
+        room: &mut SearchRoom<'d>,
         node: LooseNode<'d>,
     ) -> Result<Expanded<LooseNode<'d>, LooseTransition, T::End>, AllocError> {
         let seen = self.telling.see(alloc, &node.machine)?;
@@ -151,7 +151,7 @@ impl<'a, 'd, T: RunTelling> Orders for LooseRuns<'a, 'd, T> {
 
     fn key(
         &self,
-        room: &mut SearchRoom,
+        room: &mut SearchRoom<'d>,
         key: &mut Vec<u8>,
         node: &LooseNode<'d>,
     ) -> Result<(), AllocError> {
@@ -172,7 +172,7 @@ impl<'a, 'd, T: RunTelling> Orders for LooseRuns<'a, 'd, T> {
     fn again(
         &self,
         alloc: Global,
-        room: &mut SearchRoom,
+        room: &mut SearchRoom<'d>,
         from: &LooseNode<'d>,
         moves: &[LooseTransition],
     ) -> Result<LooseNode<'d>, AllocError> {

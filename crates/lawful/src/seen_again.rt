@@ -114,7 +114,7 @@ fn go_seen(
 /// memory is refused.
 pub(crate) fn seen_again<'d>(
     alloc: Global,
-    room: &mut SearchRoom,
+    room: &mut SearchRoom<'_>,
     seeing: SeeingScope<'_>,
     from: &LooseNode<'d>,
     moves: &[LooseTransition],

@@ -47,7 +47,7 @@ fn put_tail(bytes: &mut Vec<u8>, tail: &TextTail) -> Result<(), AllocError>
 /// Fills `key` with the code of what of a node's text isn't in order for good, and the class key of its machine's state. Fails where memory is
 /// refused.
 pub(crate) fn fill_tail_key(
-    room: &mut SearchRoom,
+    room: &mut SearchRoom<'_>,
     key: &mut Vec<u8>,
     node: &LooseNode<'_>,
     classes: &[u32],

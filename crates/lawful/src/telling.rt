@@ -93,7 +93,7 @@ pub(crate) trait RunTelling: Drop {
     /// Fills `key` with the key of a node. Where memory is refused, any bytes may stand there.
     fn key(
         &self,
-        room: &mut SearchRoom,
+        room: &mut SearchRoom<'_>,
         key: &mut Vec<u8>,
         node: &LooseNode<'_>,
         classes: &[u32],
@@ -104,7 +104,7 @@ pub(crate) trait RunTelling: Drop {
     fn again<'d>(
         &self,
         alloc: Global,
-        room: &mut SearchRoom,
+        room: &mut SearchRoom<'_>,
         from: &LooseNode<'d>,
         classes: &[u32],
         moves: &[LooseTransition],
@@ -224,7 +224,7 @@ impl RunTelling for LinesAlone<'_> {
 
     fn key(
         &self,
-        room: &mut SearchRoom,
+        room: &mut SearchRoom<'_>,
         key: &mut Vec<u8>,
         node: &LooseNode<'_>,
         classes: &[u32],
@@ -235,7 +235,7 @@ impl RunTelling for LinesAlone<'_> {
     fn again<'d>(
         &self,
         alloc: Global,
-        room: &mut SearchRoom,
+        room: &mut SearchRoom<'_>,
         from: &LooseNode<'d>,
         classes: &[u32],
         moves: &[LooseTransition],
@@ -325,7 +325,7 @@ impl RunTelling for Observing {
 
     fn key(
         &self,
-        room: &mut SearchRoom,
+        room: &mut SearchRoom<'_>,
         key: &mut Vec<u8>,
         node: &LooseNode<'_>,
         classes: &[u32],
@@ -336,7 +336,7 @@ impl RunTelling for Observing {
     fn again<'d>(
         &self,
         alloc: Global,
-        room: &mut SearchRoom,
+        room: &mut SearchRoom<'_>,
         from: &LooseNode<'d>,
         classes: &[u32],
         moves: &[LooseTransition],

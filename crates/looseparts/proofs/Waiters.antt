@@ -36,6 +36,14 @@ each_behind_more ones at d one others old new below is before added way other th
       | inr last ↦ Contains-append_right old (map (λ (other : List LooseTransition). one.items ++ other) others) (way ++ other) (behind one way other others last there')
     ])
 
+-- behind the way that takes no step others stay as they are
+pub alone_before : (ones others : List (List LooseTransition)) → ones ≡ [] ∷ [] → HaveEachBehind ones others others
+alone_before ones others is way other there there' =
+    elim (contains_split way [] [] (subst (λ z. Contains z way) is there)) [
+      | inl same ↦ subst (λ (z : List LooseTransition). Contains others (z ++ other)) same there'
+      | inr none ↦ absurd (contains_none way none)
+    ]
+
 -- of the choices one more was looked at
 
 pub kept_more : (group choices old new : List LooseTransition) (note : NoteView) (at : ℕ) (d : LooseTransition) → at < length choices → All (λ a. Contains group a ⊎ (wakes_actor note a ≡ true) → Contains old a) (take at choices)

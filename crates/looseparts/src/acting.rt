@@ -13,10 +13,10 @@ ghost use Rattle.looseparts.specs.ActorSteps.{IsActorStep};
 use crate::room::PartsRoom;
 use certificates::note::StepNote;
 use loose::transition::LooseTransition;
-use loosesteps::{entry_for, loose_choices};
+use loosesteps::{entry_for, list_choices};
 use noted::{NotedFault, take_noted};
 use regions::{Machine, TakeFault};
-use std::alloc::{AllocError, Global};
+use std::alloc::AllocError;
 use turn::TurnLog;
 
 // Whether these are the same actor.
@@ -89,28 +89,28 @@ fn is_left_out(group: &[LooseTransition], notes: &[StepNote], actor: LooseTransi
     do_concern(notes, actor)
 }
 
-/// The actors who wait of a group, and of those whom a step woke. Nobody where the run has finished.
+/// The actors who wait of a group, and of those whom the step woke whose note stands in the room. Nobody where the run has finished.
 pub(crate) fn waiting_of(
-    alloc: Global,
+    room: &mut PartsRoom<'_>,
     machine: &Machine<'_>,
     classes: &[u32],
     group: &[LooseTransition],
-    note: &StepNote,
 ) -> Result<Vec<LooseTransition>, AllocError>
     requires { IsInOrder (state_at machine.now) }
-    ensures { IfOk result (λ next. machine.now.core.finished ≡ false → (a : Actor) → IsWaiting (class_in classes.now) (state_at machine.now) a → Contains group.now a ⊎ (wakes_actor note.now a ≡ true) → Contains next.items a) }
+    ensures next { IfOk result (λ next. machine.now.core.finished ≡ false → (a : Actor) → IsWaiting (class_in classes.now) (state_at machine.now) a → Contains group.now a ⊎ (wakes_actor room.old.note a ≡ true) → Contains next.items a) }
+    ensures note { room.new.note ≡ room.old.note }
 {
-    let choices = loose_choices(alloc, machine, classes)?;
-    let mut next = Vec::new(alloc);
-    for choice in &choices {
-        add_wanted(&mut next, group, note, *choice)?;
+    list_choices(&mut room.choices, machine, classes)?;
+    let mut next = Vec::new(room.alloc);
+    for choice in &room.choices {
+        add_wanted(&mut next, group, &room.note, *choice)?;
     }
     Ok(next)
 }
 
-/// Whether nobody waits whom these notes concern, but the actors of a group.
+/// Whether nobody waits whom these notes concern, but the actors of a group. What is active is listed in `choices`.
 pub(crate) fn is_closed(
-    alloc: Global,
+    choices: &mut Vec<LooseTransition>,
     machine: &Machine<'_>,
     classes: &[u32],
     group: &[LooseTransition],
@@ -120,8 +120,8 @@ pub(crate) fn is_closed(
     requires going { machine.now.core.finished ≡ false }
     ensures { IfOk result (λ closed. closed ≡ true → (a : Actor) → IsWaiting (class_in classes.now) (state_at machine.now) a → concern notes.now a ≡ true → Contains group.now a) }
 {
-    let choices = loose_choices(alloc, machine, classes)?;
-    for choice in &choices {
+    list_choices(choices, machine, classes)?;
+    for choice in choices.iter() {
         if is_left_out(group, notes, *choice) {
             return Ok(false);
         }
@@ -139,18 +139,6 @@ fn not_noted(fault: NotedFault) -> Result<bool, AllocError>
         NotedFault::NotTaken(TakeFault::Memory) => Err(AllocError),
         _ => Ok(false),
     }
-}
-
-/// A copy of a machine, on the heap.
-pub(crate) fn copy_of<'d>(
-    alloc: Global,
-    machine: &Machine<'d>,
-) -> Result<Box<Machine<'d>>, AllocError>
-    ensures { IfOk result (λ copy. copy.value ≡ machine.now) }
-{
-    let copy = machine.copy(alloc)?;
-    let boxed = Box::new(alloc, copy)?;
-    Ok(boxed)
 }
 
 // Takes the event of an actor, and fills a note with what the step has to do with others. Answers whether it did. The turn is evaluated
@@ -179,7 +167,7 @@ fn take_actor(
 /// Takes the event of an actor, where more steps may be taken. Its note, which says what the step has to do with others, stands in the
 /// room then. Answers whether it did.
 pub(crate) fn take_step(
-    room: &mut PartsRoom,
+    room: &mut PartsRoom<'_>,
     classes: &[u32],
     machine: &mut Machine<'_>,
     actor: LooseTransition,

@@ -10,8 +10,8 @@ ghost use Rattle.looseparts.specs.FoundGroups.{FoundStandsForAll, PartsStandToge
 ghost use Rattle.looseparts.specs.FoundParts.{AreAdded, IsPutBehind};
 ghost use Rattle.looseparts.specs.FirstSteps.{IsFirstStep};
 
-use crate::acting::{copy_of, do_concern_all, is_closed, take_step, waiting_of};
-use crate::found::{FoundPart, PartFindings, are_all_apart, move_note, with_behind};
+use crate::acting::{do_concern_all, is_closed, take_step, waiting_of};
+use crate::found::{FoundPart, PartFindings, are_all_apart, with_behind};
 use crate::repeats::leave_out_repeats;
 use crate::room::PartsRoom;
 use certificates::note::StepNote;
@@ -44,18 +44,18 @@ fn put_together(alloc: Global, parts: Vec<FoundPart>) -> Result<Option<PartFindi
     Ok(Some(all))
 }
 
-/// A first step: the machine that took it, who waits behind it of those whom it concerns, and its note alone.
+/// A first step: the machine that took it, who waits behind it of those whom it concerns, and its note.
 #[derive(Drop)]
 pub(crate) struct FirstStep<'d> {
     machine: Box<Machine<'d>>,
     next: Vec<LooseTransition>,
-    notes: Vec<StepNote>,
+    note: StepNote,
 }
 
 // The step of an actor, which a copy of a machine takes, with what waits behind it of a group and of those whom it woke. None where the
 // actor takes none, or no more steps may be taken.
 fn first_step<'d>(
-    room: &mut PartsRoom,
+    room: &mut PartsRoom<'d>,
     classes: &[u32],
     machine: &Machine<'d>,
     group: &[LooseTransition],
@@ -64,43 +64,41 @@ fn first_step<'d>(
     requires { IsInOrder (state_at machine.now) }
     ensures { IfOk result (λ found. IfSome found (IsFirstStep (class_in classes.now) machine.now group.now actor)) }
 {
-    let mut copy = copy_of(room.alloc, machine)?;
+    let mut copy = room.copy_of(machine)?;
     if !take_step(room, classes, &mut copy, actor)? {
+        room.give_back(copy);
         return Ok(None);
     }
-    let next = waiting_of(room.alloc, &copy, classes, group, &room.note)?;
-    let mut notes = Vec::new(room.alloc);
-    move_note(room.alloc, &mut notes, &mut room.note)?;
+    let next = waiting_of(room, &copy, classes, group)?;
     Ok(Some(FirstStep {
         machine: copy,
         next,
-        notes,
+        note: room.take_note(),
     }))
 }
 
 // What was found behind the first step of an actor, with that step before it.
-fn with_step(
-    alloc: Global,
+fn with_step<'d>(
+    room: &mut PartsRoom<'d>,
     actor: LooseTransition,
     found: PartFindings,
-    step: FirstStep<'_>,
+    step: FirstStep<'d>,
 ) -> Result<PartFindings, AllocError>
-    ensures { IfOk result (IsPutBehind actor step.entry.notes.items found) }
+    ensures { IfOk result (IsPutBehind actor (step.entry.note ∷ []) found) }
 {
+    let FirstStep { machine, note, .. } = step;
+    room.give_back(machine);
     let mut found = found;
-    let mut step = step;
-    let put = found.put_behind(alloc, actor, &mut step.notes);
-    drop(step);
-    put?;
+    found.put_behind(room.alloc, actor, note)?;
     Ok(found)
 }
 
 // Follows an actor of a group first: its step, and then what is left of the group, with those whom the step woke.
 #[cycle(find)]
-fn follow_one(
-    room: &mut PartsRoom,
+fn follow_one<'d>(
+    room: &mut PartsRoom<'d>,
     classes: &[u32],
-    machine: &Machine<'_>,
+    machine: &Machine<'d>,
     depth: u32,
     group: &[LooseTransition],
     actor: LooseTransition,
@@ -114,10 +112,13 @@ fn follow_one(
     };
     match explore(room, classes, &step.machine, depth, &step.next)? {
         Some(behind) => {
-            let found = with_step(room.alloc, actor, behind, step)?;
+            let found = with_step(room, actor, behind, step)?;
             Ok(Some(found))
         }
-        None => Ok(None),
+        None => {
+            room.give_back(step.machine);
+            Ok(None)
+        }
     }
 }
 
@@ -133,10 +134,10 @@ fn add_next(found: &mut PartFindings, next: PartFindings) -> Result<(), AllocErr
 
 // Follows each actor of a group first, and adds what is found then. Answers whether that is all.
 #[cycle(find)]
-fn follow_each(
-    room: &mut PartsRoom,
+fn follow_each<'d>(
+    room: &mut PartsRoom<'d>,
     classes: &[u32],
-    machine: &Machine<'_>,
+    machine: &Machine<'d>,
     group: &[LooseTransition],
     depth: u32,
     found: &mut PartFindings,
@@ -154,15 +155,15 @@ fn follow_each(
             None => return Ok(false),
         }
     }
-    is_closed(room.alloc, machine, classes, group, &found.notes)
+    is_closed(&mut room.choices, machine, classes, group, &found.notes)
 }
 
 // Finds what a group does where each of its actors is followed first.
 #[cycle(find)]
-fn follow(
-    room: &mut PartsRoom,
+fn follow<'d>(
+    room: &mut PartsRoom<'d>,
     classes: &[u32],
-    machine: &Machine<'_>,
+    machine: &Machine<'d>,
     group: &[LooseTransition],
     depth: u32,
 ) -> Result<Option<PartFindings>, AllocError>
@@ -178,10 +179,10 @@ fn follow(
 }
 
 // The part of some actors, of which this was found. Where more than one of them may be first, of ways that come to the same one is kept.
-fn part_with(
-    room: &mut PartsRoom,
+fn part_with<'d>(
+    room: &mut PartsRoom<'d>,
     classes: &[u32],
-    machine: &Machine<'_>,
+    machine: &Machine<'d>,
     actors: Vec<LooseTransition>,
     found: PartFindings,
 ) -> Result<FoundPart, AllocError>
@@ -199,10 +200,10 @@ fn part_with(
 // The part of some actors, of which this was found, where it is apart from the parts so far. Else one of these from which it isn't is taken
 // out, and its actors are put before the others. Those who were there before stay first, so that the way that is kept of several takes events
 // as they wait, as walks do.
-fn part_apart(
-    room: &mut PartsRoom,
+fn part_apart<'d>(
+    room: &mut PartsRoom<'d>,
     classes: &[u32],
-    machine: &Machine<'_>,
+    machine: &Machine<'d>,
     parts: &mut Vec<FoundPart>,
     actors: &mut Vec<LooseTransition>,
     found: PartFindings,
@@ -214,6 +215,8 @@ fn part_apart(
     match take_meeting(parts, &found) {
         Some(other) => {
             *actors = with_behind(room.alloc, &other.actors, actors)?;
+            room.let_go(other.found);
+            room.let_go(found);
             Ok(None)
         }
         None => {
@@ -226,10 +229,10 @@ fn part_apart(
 
 // The part of an actor: he alone, or he with those of the parts so far from which he isn't apart. These are taken out.
 #[cycle(find)]
-fn part_of(
-    room: &mut PartsRoom,
+fn part_of<'d>(
+    room: &mut PartsRoom<'d>,
     classes: &[u32],
-    machine: &Machine<'_>,
+    machine: &Machine<'d>,
     depth: u32,
     parts: &mut Vec<FoundPart>,
     actor: LooseTransition,
@@ -258,10 +261,10 @@ fn part_of(
 // Finds what the actors of a group do alone, where nobody else whom they wake waits already: parts that are apart, each followed by its
 // first steps; and of a run that has finished, its end. The depth is how many steps may be taken one behind another.
 #[cycle(find)]
-pub(crate) fn explore(
-    room: &mut PartsRoom,
+pub(crate) fn explore<'d>(
+    room: &mut PartsRoom<'d>,
     classes: &[u32],
-    machine: &Machine<'_>,
+    machine: &Machine<'d>,
     depth: u32,
     group: &[LooseTransition],
 ) -> Result<Option<PartFindings>, AllocError>

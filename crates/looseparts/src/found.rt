@@ -75,18 +75,25 @@ fn products(
     Ok(ways)
 }
 
-/// Appends a note, and leaves another in its place, which has nothing in it.
-pub(crate) fn move_note(
-    alloc: Global,
-    notes: &mut Vec<StepNote>,
-    note: &mut StepNote,
-) -> Result<(), AllocError>
-    ensures { OnOk result (notes.new.items ≡ notes.old.items ++ note.old ∷ []) }
+// Moves others behind the items of a list. Where that has none, it takes their memory.
+fn append_all<T>(list: &mut Vec<T>, others: &mut Vec<T>) -> Result<(), AllocError>
+    ensures { OnOk result (list.new.items ≡ list.old.items ++ others.old.items) }
 {
-    let empty = StepNote::new(alloc, note.owner);
-    let moved = mem::replace(note, empty);
-    notes.push(moved)?;
-    Ok(())
+    if list.is_empty() {
+        mem::swap(list, others);
+        return Ok(());
+    }
+    list.append(others)
+}
+
+// Whether the way that takes no step is the only one of these.
+fn is_no_step_alone(ways: &[Vec<LooseTransition>]) -> bool
+    ensures { result ≡ true → ways_in ways.now ≡ [] ∷ [] }
+{
+    if ways.len() != 1 {
+        return false;
+    }
+    ways[0].is_empty()
 }
 
 // Whether a note says that it is apart from each of these.
@@ -147,21 +154,21 @@ impl PartFindings {
         Ok(found)
     }
 
-    /// Puts the step of an actor, which has these notes, before all that was found.
+    /// Puts the step of an actor, which has this note, before all that was found.
     pub(crate) fn put_behind(
         &mut self,
         alloc: Global,
         actor: LooseTransition,
-        notes: &mut Vec<StepNote>,
+        note: StepNote,
     ) -> Result<(), AllocError>
-        ensures { OnOk result (IsPutBehind actor notes.old.items self.old self.new) }
+        ensures { OnOk result (IsPutBehind actor (note ∷ []) self.old self.new) }
     {
+        self.notes.push(note)?;
         let mut ways = Vec::new(alloc);
         add_each_behind(alloc, &mut ways, &[actor], &self.ways)?;
+        self.ways = ways;
         let mut ends = Vec::new(alloc);
         add_each_behind(alloc, &mut ends, &[actor], &self.ends)?;
-        self.notes.append(notes)?;
-        self.ways = ways;
         self.ends = ends;
         Ok(())
     }
@@ -170,9 +177,25 @@ impl PartFindings {
     pub(crate) fn add_all(&mut self, next: &mut PartFindings) -> Result<(), AllocError>
         ensures { OnOk result (AreAdded self.old next.old self.new) }
     {
-        self.ways.append(&mut next.ways)?;
-        self.ends.append(&mut next.ends)?;
-        self.notes.append(&mut next.notes)?;
+        append_all(&mut self.ways, &mut next.ways)?;
+        append_all(&mut self.ends, &mut next.ends)?;
+        append_all(&mut self.notes, &mut next.notes)
+    }
+
+    // Puts ways behind its own. Behind the way that takes no step alone they stay as they are.
+    fn put_ways_behind(
+        &mut self,
+        alloc: Global,
+        others: &mut Vec<Vec<LooseTransition>>,
+    ) -> Result<(), AllocError>
+        ensures ways { OnOk result (HaveEachBehind (ways_in self.old.ways.items) (ways_in others.old.items) (ways_in self.new.ways.items)) }
+        ensures rest { self.new ≡ record self.old { ways = self.new.ways } }
+    {
+        if is_no_step_alone(&self.ways) {
+            mem::swap(&mut self.ways, others);
+            return Ok(());
+        }
+        self.ways = products(alloc, &self.ways, others)?;
         Ok(())
     }
 
@@ -191,9 +214,9 @@ impl PartFindings {
         if !are_all_apart(&self.notes, &other.notes) {
             return Ok(false);
         }
-        self.ends.append(&mut other.ends)?;
-        self.notes.append(&mut other.notes)?;
-        self.ways = products(alloc, &self.ways, &other.ways)?;
+        append_all(&mut self.ends, &mut other.ends)?;
+        append_all(&mut self.notes, &mut other.notes)?;
+        self.put_ways_behind(alloc, &mut other.ways)?;
         Ok(true)
     }
 }

@@ -8,6 +8,8 @@
 //! 4. `repeats` leaves out ways that print the same as another and lead to a state that is alike, so that a race without an effect is one
 //!    way. Each is gone again for that (`gone_way`).
 //! 5. `parts` begins that with all who wait.
+//! 6. Each step is taken by a copy of the machine. Copies, notes and lists of choices are used again in place of new ones (`room`), since a
+//!    search tries many steps.
 //!
 //! What the layer above uses: `ways_by_parts`, whose contract is that its ways cover whatever leads on from where the machine stands. The
 //! definitions stand in `specs/`, and `laws` carries what is proved of them besides.

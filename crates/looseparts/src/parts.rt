@@ -28,22 +28,23 @@ pub struct CoveringWays {
     pub ends: Vec<Vec<LooseTransition>>,
 }
 
-// The ways of what was found.
-fn covering(found: PartFindings) -> CoveringWays
+// The ways of what was found. Its notes are given back.
+fn covering(room: &mut PartsRoom<'_>, found: PartFindings) -> CoveringWays
     ensures ways { result.ways ≡ found.ways }
     ensures ends { result.ends ≡ found.ends }
 {
-    let PartFindings { ways, ends, .. } = found;
+    let PartFindings { ways, ends, notes } = found;
+    room.give_back_notes(notes);
     CoveringWays { ways, ends }
 }
 
 /// Ways that stand for all loose runs from where a machine stands: parts that are apart, and of each the orders of its steps. None where
 /// nothing is active, or where it gives up: a turn is too long, there are too many ways or steps, or it gave up too often before. So where
 /// there are ways, nobody who waits has a turn that is too long. The classes of registers say which updates wait for each other.
-pub fn ways_by_parts(
-    room: &mut PartsRoom,
+pub fn ways_by_parts<'d>(
+    room: &mut PartsRoom<'d>,
     classes: &[u32],
-    machine: &Machine<'_>,
+    machine: &Machine<'d>,
 ) -> Result<Option<CoveringWays>, AllocError>
     requires { IsInOrder (state_at machine.now) }
     ensures cover { IfOk result (λ found. IfSome found (λ found. (limits : Limits) → CoverToFinish (class_in classes.now) (design_of machine.now.code) limits (state_at machine.now) (ways_in found.ways.items) (ways_in found.ends.items))) }
@@ -60,7 +61,7 @@ pub fn ways_by_parts(
         return Ok(None);
     }
     match explore(room, classes, machine, MOST_DEPTH, &group)? {
-        Some(found) => Ok(Some(covering(found))),
+        Some(found) => Ok(Some(covering(room, found))),
         None => {
             room.spend();
             Ok(None)

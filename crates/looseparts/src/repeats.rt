@@ -11,7 +11,7 @@ ghost use Rattle.looseparts.specs.FoundWays.{ways_in};
 ghost use Rattle.looseparts.specs.StandTogether.{concern};
 ghost use Rattle.looseparts.specs.FoundGroups.{FoundStandsForAll};
 
-use crate::acting::{copy_of, do_concern_all, take_step};
+use crate::acting::{do_concern_all, take_step};
 use crate::found::PartFindings;
 use crate::gone_way::GoneWay;
 use crate::room::PartsRoom;
@@ -22,7 +22,7 @@ use std::alloc::{AllocError, Global};
 
 // Goes a way with a machine. Answers whether it did.
 fn go(
-    room: &mut PartsRoom,
+    room: &mut PartsRoom<'_>,
     classes: &[u32],
     machine: &mut Machine<'_>,
     way: &[LooseTransition],
@@ -40,17 +40,20 @@ fn go(
 }
 
 // A copy of a machine, without its lines.
-fn silent_copy<'d>(alloc: Global, machine: &Machine<'d>) -> Result<Box<Machine<'d>>, AllocError>
+fn silent_copy<'d>(
+    room: &mut PartsRoom<'d>,
+    machine: &Machine<'d>,
+) -> Result<Box<Machine<'d>>, AllocError>
     ensures { IfOk result (λ copy. copy.value ≡ record machine.now { lines = [] }) }
 {
-    let mut copy = copy_of(alloc, machine)?;
+    let mut copy = room.copy_of(machine)?;
     let _lines = copy.take_lines();
     Ok(copy)
 }
 
 // The class key of a machine's state, unless the run has finished there.
 fn key_of(
-    room: &mut PartsRoom,
+    room: &mut PartsRoom<'_>,
     classes: &[u32],
     machine: &Machine<'_>,
 ) -> Result<Vec<u8>, AllocError>
@@ -66,7 +69,7 @@ fn key_of(
 
 // A way, gone again with a machine. None where too many steps were taken, and where the run isn't finished at its end as it should be.
 fn gone_with(
-    room: &mut PartsRoom,
+    room: &mut PartsRoom<'_>,
     classes: &[u32],
     machine: &mut Machine<'_>,
     way: &[LooseTransition],
@@ -94,9 +97,9 @@ fn gone_with(
 }
 
 // A way, gone again from where a machine stands, with a copy of it.
-fn gone_again(
-    room: &mut PartsRoom,
-    machine: &Machine<'_>,
+fn gone_again<'d>(
+    room: &mut PartsRoom<'d>,
+    machine: &Machine<'d>,
     classes: &[u32],
     way: &[LooseTransition],
     over: bool,
@@ -105,8 +108,10 @@ fn gone_again(
     ensures way { IfOk result (λ gone. IfSome gone (λ gone. gone.way.items ≡ way.now)) }
     ensures comes { IfOk result (λ gone. IfSome gone (λ gone. ComesTo (class_in classes.now) (record machine.now { lines = [] }) way.now over gone.lines.items gone.key.items)) }
 {
-    let mut copy = silent_copy(room.alloc, machine)?;
-    gone_with(room, classes, &mut copy, way, over)
+    let mut copy = silent_copy(room, machine)?;
+    let gone = gone_with(room, classes, &mut copy, way, over);
+    room.give_back(copy);
+    gone
 }
 
 // Whether two ways print the same, and lead to states that are alike.
@@ -144,9 +149,9 @@ fn keep_once(kept: &mut Vec<GoneWay>, gone: GoneWay) -> Result<(), AllocError>
 }
 
 // Ways of which each of these comes to the same as one. None where too many steps were taken.
-fn kept_of(
-    room: &mut PartsRoom,
-    machine: &Machine<'_>,
+fn kept_of<'d>(
+    room: &mut PartsRoom<'d>,
+    machine: &Machine<'d>,
     classes: &[u32],
     ways: &[Vec<LooseTransition>],
     over: bool,
@@ -189,10 +194,10 @@ fn transitions_of(alloc: Global, kept: &[GoneWay]) -> Result<Vec<Vec<LooseTransi
 }
 
 // Leaves out each of these ways that comes to the same as another, where steps enough may be taken to look.
-fn leave_out(
-    room: &mut PartsRoom,
+fn leave_out<'d>(
+    room: &mut PartsRoom<'d>,
     classes: &[u32],
-    machine: &Machine<'_>,
+    machine: &Machine<'d>,
     notes: &[StepNote],
     ways: &mut Vec<Vec<LooseTransition>>,
     over: bool,
@@ -216,10 +221,10 @@ fn leave_out(
 
 /// Leaves out each way that prints the same as another and leads to a state that is alike, and each way to an end that prints the same as
 /// another, where steps enough may be taken to look.
-pub(crate) fn leave_out_repeats(
-    room: &mut PartsRoom,
+pub(crate) fn leave_out_repeats<'d>(
+    room: &mut PartsRoom<'d>,
     classes: &[u32],
-    machine: &Machine<'_>,
+    machine: &Machine<'d>,
     found: &mut PartFindings,
 ) -> Result<(), AllocError>
     requires { IsInOrder (state_at machine.now) }

@@ -1,4 +1,7 @@
 //! What ways are found in.
+ghost use Rattle.std.specs.Prelude.{◌≡◌, IfOk};
+
+use crate::found::PartFindings;
 use certificates::note::StepNote;
 use loose::transition::LooseTransition;
 use regions::Machine;
@@ -16,31 +19,65 @@ const STEPS_OF_A_STATE: usize = 8;
 // How many steps are worth a try, for each actor who waits.
 const STEPS_OF_AN_ACTOR: usize = 32;
 
-/// What ways are found in, one state after another: the log of turns, the note of the last step, room in which keys are made, how many
-/// steps may still be taken from a state, how many to go ways again, and how many may be spent where no ways are found.
+// The most machines that are kept for copies to come. Few are needed at once, one for each step behind another.
+const MOST_MACHINES: usize = 32;
+
+// The most notes that are kept for steps to come.
+const MOST_NOTES: usize = 256;
+
+/// What ways are found in, one state after another: the log of turns, the note of the last step, room in which keys are made, machines that
+/// become copies of others, notes that steps to come fill, the transitions that were listed last, how many steps may still be taken from a
+/// state, how many to go ways again, and how many may be spent where no ways are found.
 #[derive(Drop)]
-pub struct PartsRoom {
+pub struct PartsRoom<'d> {
     pub(crate) alloc: Global,
     pub(crate) log: TurnLog,
     pub(crate) note: StepNote,
     scratch: Scratch,
+    machines: Vec<Box<Machine<'d>>>,
+    notes: Vec<StepNote>,
+    pub(crate) choices: Vec<LooseTransition>,
     steps: usize,
     again: usize,
     spare: usize,
 }
 
-impl PartsRoom {
+// A copy of a machine, on the heap.
+fn copied<'d>(alloc: Global, machine: &Machine<'d>) -> Result<Box<Machine<'d>>, AllocError>
+    ensures { IfOk result (λ copy. copy.value ≡ machine.now) }
+{
+    let copy = machine.copy(alloc)?;
+    let boxed = Box::new(alloc, copy)?;
+    Ok(boxed)
+}
+
+// A machine that isn't needed any more, as a copy of another.
+fn copied_into<'d>(
+    machine: &Machine<'d>,
+    spare: Box<Machine<'d>>,
+) -> Result<Box<Machine<'d>>, AllocError>
+    ensures { IfOk result (λ copy. copy.value ≡ machine.now) }
+{
+    let mut copy = spare;
+    machine.copy_into(&mut copy)?;
+    Ok(copy)
+}
+
+impl<'d> PartsRoom<'d> {
     ghost use Rattle.std.specs.Prelude.{OnOk};
     ghost use Rattle.loose.specs.Classes.{class_in};
     ghost use Rattle.statekeys.specs.ClassKeys.{IsClassKey};
 
     /// Room for the first state.
-    pub fn new(alloc: Global) -> PartsRoom {
+    pub fn new(alloc: Global) -> PartsRoom<'d> {
         PartsRoom {
             alloc,
             log: TurnLog::new(alloc),
             note: StepNote::new(alloc, LooseTransition::Process(0)),
             scratch: Scratch::new(alloc),
+            machines: Vec::new(alloc),
+            notes: Vec::new(alloc),
+            choices: Vec::new(alloc),
             steps: 0,
             again: 0,
             spare: MOST_STEPS,
@@ -67,6 +104,60 @@ impl PartsRoom {
             machine.store(),
             classes,
         )
+    }
+
+    /// A copy of a machine, on the heap: one that was given back becomes it, where there is one. Fails where memory is refused.
+    pub(crate) fn copy_of(&mut self, machine: &Machine<'d>) -> Result<Box<Machine<'d>>, AllocError>
+        ensures { IfOk result (λ copy. copy.value ≡ machine.now) }
+    {
+        match self.machines.pop() {
+            Some(spare) => copied_into(machine, spare),
+            None => copied(self.alloc, machine),
+        }
+    }
+
+    /// Takes back a machine that isn't needed any more, for copies to come. Where there are enough of them, it is dropped.
+    pub(crate) fn give_back(&mut self, machine: Box<Machine<'d>>) {
+        if self.machines.len() >= MOST_MACHINES {
+            return;
+        }
+        match self.machines.push(machine) {
+            Ok(()) => {}
+            Err(_) => {}
+        }
+    }
+
+    /// Takes out the note of the last step. Another stands in its place, for the next step.
+    pub(crate) fn take_note(&mut self) -> StepNote
+        ensures { result ≡ self.old.note }
+    {
+        let other = match self.notes.pop() {
+            Some(note) => note,
+            None => StepNote::new(self.alloc, LooseTransition::Process(0)),
+        };
+        mem::replace(&mut self.note, other)
+    }
+
+    /// Drops what was found, but for its notes, which are given back.
+    pub(crate) fn let_go(&mut self, found: PartFindings) {
+        let PartFindings { notes, .. } = found;
+        self.give_back_notes(notes);
+    }
+
+    /// Takes back notes that aren't needed any more, for steps to come. Where there are enough of them, they are dropped.
+    pub(crate) fn give_back_notes(&mut self, notes: Vec<StepNote>) {
+        let mut notes = notes;
+        if self.notes.len() >= MOST_NOTES {
+            return;
+        }
+        if self.notes.is_empty() {
+            mem::swap(&mut self.notes, &mut notes);
+            return;
+        }
+        match self.notes.append(&mut notes) {
+            Ok(()) => {}
+            Err(_) => {}
+        }
     }
 
     /// Permits steps from the next state, in which so many actors wait: all that may be spent, unless that is too little to be worth a try.

@@ -70,9 +70,30 @@ fn add_change(choices: &mut Vec<LooseTransition>, due: Option<Entry>) -> Result<
     Ok(())
 }
 
-/// The loose transitions that may be taken now (11.4), each once: the turn of each process that has an active evaluation, and the
-/// first update of each class that has an active one; or, where nothing is active, the change of the regions that is due. Fails where
-/// memory is refused.
+/// Lists the loose transitions that may be taken now (11.4), each once: the turn of each process that has an active evaluation, and the
+/// first update of each class that has an active one; or, where nothing is active, the change of the regions that is due. What stood in the
+/// list is dropped. Fails where memory is refused, and the list may have some of them then.
+pub fn list_choices(
+    choices: &mut Vec<LooseTransition>,
+    machine: &Machine<'_>,
+    classes: &[u32],
+) -> Result<(), AllocError>
+    requires { IsInOrder (state_at machine.now) }
+    ensures permitted { OnOk result ((transition : LooseTransition) → Contains choices.new.items transition ↔ MayBeTaken (class_in classes.now) (state_at machine.now) transition) }
+    ensures once { OnOk result (AllPairs ◌≢◌ choices.new.items) }
+{
+    choices.clear();
+    if machine.is_finished() {
+        return Ok(());
+    }
+    let (updates, evaluations) = machine.state().active();
+    add_updates(choices, updates, classes)?;
+    add_evaluations(choices, evaluations)?;
+    add_change(choices, machine.due())?;
+    Ok(())
+}
+
+/// The same transitions, in a list of their own. Fails where memory is refused.
 pub fn loose_choices(
     alloc: Global,
     machine: &Machine<'_>,
@@ -83,12 +104,6 @@ pub fn loose_choices(
     ensures once { IfOk result (λ v. AllPairs ◌≢◌ v.items) }
 {
     let mut choices = Vec::new(alloc);
-    if machine.is_finished() {
-        return Ok(choices);
-    }
-    let (updates, evaluations) = machine.state().active();
-    add_updates(&mut choices, updates, classes)?;
-    add_evaluations(&mut choices, evaluations)?;
-    add_change(&mut choices, machine.due())?;
+    list_choices(&mut choices, machine, classes)?;
     Ok(choices)
 }

@@ -9,11 +9,11 @@
 //! 3. The machine takes the entry.
 //!
 //! A layer above uses the contracts of `take_loosely`, by which it is one loose step, up to the order of updates of different classes,
-//! and of `loose_choices`, which gives the transitions that may be taken where a machine stands.
+//! and of `loose_choices` and `list_choices`, which give the transitions that may be taken where a machine stands.
 #![tactic(auto)]
 
 mod choices;
 mod steps;
 
-pub use choices::loose_choices;
+pub use choices::{list_choices, loose_choices};
 pub use steps::{entry_for, first_evaluation, first_of_class, take_loosely};

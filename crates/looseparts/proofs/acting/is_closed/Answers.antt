@@ -16,5 +16,5 @@ loop-choice-preserved c =
 
 pub returns : goal.returns
 returns c =
-    λ done a waits. seen_waiting (λ b. concern c.args.notes.now b ≡ true → Contains c.args.group.now b) (class_in c.args.classes.now) (design_of c.args.machine.now.code) (state_at c.args.machine.now) c.deref-choice-items.result.now c.in_ok-choices.choices.items
-    c.loop-choice.choice-index a c.deref-choice-items.ensures.value c.in_ok-choices.ensures.permitted c.requires.order c.requires.going c.loop-choice-test.false c.loop-choice.invariant waits
+    λ done a waits. seen_waiting (λ b. concern c.args.notes.now b ≡ true → Contains c.args.group.now b) (class_in c.args.classes.now) (design_of c.args.machine.now.code) (state_at c.args.machine.now) c.deref-choice-items.result.now c.list_choices.new.choices.items
+    c.loop-choice.choice-index a c.deref-choice-items.ensures.value c.in_ok-list_choices.ensures.permitted c.requires.order c.requires.going c.loop-choice-test.false c.loop-choice.invariant waits

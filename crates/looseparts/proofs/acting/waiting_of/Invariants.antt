@@ -6,4 +6,4 @@ use Rattle.looseparts.proofs.acting.waiting_of.Given as goal
 
 abbrev pub invariant-loop-choice : goal.invariant-loop-choice
 invariant-loop-choice l =
-    All (λ a. Contains l.group a ⊎ (wakes_actor l.note a ≡ true) → Contains l.next.items a) (take l.choice-index l.choice-items)
+    All (λ a. Contains l.group a ⊎ (wakes_actor l.fn.room.note a ≡ true) → Contains l.next.items a) (take l.choice-index l.choice-items)

@@ -12,7 +12,6 @@ use Rattle.looseparts.specs.StandTogether.{concern, IsFollowedFirst}
 use Rattle.looseparts.specs.FoundWays.{ways_in}
 use Rattle.looseparts.specs.FirstSteps.{IsFirstStep}
 use Rattle.looseparts.specs.FoundGroups.{FoundStandsForAll, IsFollowedBy, IsFoundFor, IsPart}
-use Rattle.looseparts.specs.FoundParts.{IsPutBehind}
 use Rattle.looseparts.specs.declared.found.FoundPart.{FoundPart}
 use Rattle.looseparts.specs.declared.found.PartFindings.{PartFindings}
 use Rattle.looseparts.proofs.Lists.{all_contained, all_seen}
@@ -50,10 +49,10 @@ follow_one-returns-in_ok-found-in-Some-2 t c =
     let new = step.machine.value in
     let behind = c.in-Some-2.behind in
     let first : IsFirstStep class m c.args.group.now c.args.actor step = subst (λ o. IfSome o (IsFirstStep class m c.args.group.now c.args.actor)) c.in-Some.is c.in_ok-step.ensures in
-    followed_at class m new new c.deref.result.now c.args.group.now step.next.items c.deref-2.result.now c.args.actor first.note behind c.in_ok-found-in-Some-2.found first.taken first.code refl c.deref.ensures c.deref-2.ensures.value first.waiting
+    followed_at class m new new c.deref.result.now c.args.group.now step.next.items c.deref-2.result.now c.args.actor step.note behind c.in_ok-found-in-Some-2.found first.taken first.code refl c.deref.ensures c.deref-2.ensures.value first.waiting
     (λ going. subst (λ o. IfSome o (IsFoundFor class c.deref.result.now.code (state_at c.deref.result.now) c.deref-2.result.now)) c.in-Some-2.is (c.in_ok-behind.ensures.going going))
     (λ ended. subst (λ (o : Option PartFindings). IfSome o (λ found. ways_in found.ends.items ≡ [] ∷ [])) c.in-Some-2.is (c.in_ok-behind.ensures.finished ended))
-    (subst (λ l. IsPutBehind c.args.actor l behind c.in_ok-found-in-Some-2.found) first.notes_are c.in_ok-found-in-Some-2.ensures)
+    c.in_ok-found-in-Some-2.ensures
 
 pub part_of-loop-merged-preserved : goal.part_of-loop-merged-preserved
 part_of-loop-merged-preserved t c =

@@ -8,15 +8,15 @@ use Rattle.loose.specs.Classes.{class_in}
 use Rattle.loosesteps.specs.Choices.{AreGathered, update_transition}
 use Rattle.loosesteps.specs.LooselyTaken.{MayBeTaken}
 use Rattle.loosesteps.proofs.ChoiceLaws.{AreChoices, choices_gathered, choices_permitted, choices_once}
-use Rattle.loosesteps.proofs.choices.loose_choices.Goals.{In_ok-add_change}
-use Rattle.loosesteps.proofs.choices.loose_choices.Goals as goal
+use Rattle.loosesteps.proofs.choices.list_choices.Goals.{In_ok-add_change}
+use Rattle.loosesteps.proofs.choices.list_choices.Goals as goal
 
 choices : (c : In_ok-add_change) → AreChoices (class_in c.args.classes.now) c.active.result.0.now.items c.active.result.1.now.items c.add_evaluations.new.choices.items
 choices c =
     let class = class_in c.args.classes.now in
     let us = c.active.result.0.now.items in
     let first : AreGathered [] (map (update_transition class) us) c.add_updates.new.choices.items =
-    subst (λ (old : List LooseTransition). AreGathered old (map (update_transition class) us) c.add_updates.new.choices.items) c.new-choices.ensures.items c.in_ok-add_updates.ensures in
+    subst (λ (old : List LooseTransition). AreGathered old (map (update_transition class) us) c.add_updates.new.choices.items) c.clear.ensures.items c.in_ok-add_updates.ensures in
     choices_gathered class us c.active.result.1.now.items c.add_updates.new.choices.items c.add_evaluations.new.choices.items first c.in_ok-add_evaluations.ensures
 
 pub returns-clause-permitted : goal.returns-clause-permitted
