@@ -5,3 +5,4 @@ pub mod ObservedWords
 pub mod SecondWord
 pub mod TaskLemmas
 pub mod FormedLemmas
+pub mod SaidLemmas

@@ -18,9 +18,9 @@ use Rattle.arguments.specs.declared.request.Request.TheVariants as request
 use Rattle.arguments.specs.declared.command_task.CommandTask.{CommandTask}
 use Rattle.arguments.specs.declared.command_task.CommandTask.TheVariants as task
 use Rattle.arguments.specs.Arguments.{Follow, FollowsRule, Gives, HasRules, Rule, flag_parser, flag_rule, parameters_of, rule, rule_for, rules_of, workers_parser, until_parser, entries_parser, seed_parser}
-use Rattle.arguments.specs.CommandWords.{Asks, AsksInVain, Begins, FailsAs, IsAskedBy, IsRunOf, IsReplayOf, IsRacesOf, IsCheckOf, IsExplainOf, IsWavesOf, IsDiffOf, app_by, argument_of, bare_app, every_task, faults_by, rows_by, with_arguments, with_tasks, word_of_task, run_app, replay_app, races_app, check_app, explain_app, waves_app, diff_app, whole_app, run_rows, replay_rows, races_rows, check_rows, explain_rows, waves_rows, diff_rows, run_faults, replay_faults, races_faults, check_faults, explain_faults, waves_faults, diff_faults}
+use Rattle.arguments.specs.CommandWords.{Asks, AsksInVain, Begins, FailsAs, IsAskedBy, IsRunOf, IsReplayOf, IsRacesOf, IsCheckOf, IsExplainOf, IsWavesOf, IsDiffOf, IsFlattenOf, app_by, argument_of, bare_app, every_task, faults_by, rows_by, with_arguments, with_tasks, word_of_task, run_app, replay_app, races_app, check_app, explain_app, waves_app, diff_app, flatten_app, whole_app, run_rows, replay_rows, races_rows, check_rows, explain_rows, waves_rows, diff_rows, flatten_rows, run_faults, replay_faults, races_faults, check_faults, explain_faults, waves_faults, diff_faults, flatten_faults}
 use Rattle.arguments.proofs.GivenLemmas.{given, one_more, required_text}
-use Rattle.arguments.proofs.WordLemmas.{run_fails, replay_fails, races_fails, check_fails, explain_fails, waves_fails, diff_fails, no_telling_fails, nothing_observed_fails, samples_fail, two_orders_fail}
+use Rattle.arguments.proofs.WordLemmas.{run_fails, replay_fails, races_fails, check_fails, explain_fails, waves_fails, diff_fails, flatten_fails, no_telling_fails, nothing_observed_fails, samples_fail, two_orders_fail}
 
 -- how a command is built
 
@@ -33,7 +33,7 @@ with_tasks_more app [] t = refl
 with_tasks_more app (u ∷ ts) t = with_tasks_more (with_subcommand app (app_by u).top) ts t
 
 pub task_app : (asked : CommandTask) → with_arguments (new_app (word_of_task asked)) (parameters_of asked) ≡ app_by asked
-unfolding run_app replay_app races_app check_app explain_app waves_app diff_app
+unfolding run_app replay_app races_app check_app explain_app waves_app diff_app flatten_app
 task_app task.Run = refl
 task_app task.Replay = refl
 task_app task.Races = refl
@@ -41,13 +41,14 @@ task_app task.Check = refl
 task_app task.Explain = refl
 task_app task.Waves = refl
 task_app task.Diff = refl
+task_app task.Flatten = refl
 
 pub all_tasks : with_tasks bare_app every_task ≡ whole_app
 unfolding whole_app
 all_tasks = refl
 
 pub task_is_simple : (asked : CommandTask) → is_simple (app_by asked) ≡ true
-unfolding run_app replay_app races_app check_app explain_app waves_app diff_app
+unfolding run_app replay_app races_app check_app explain_app waves_app diff_app flatten_app
 task_is_simple task.Run = refl
 task_is_simple task.Replay = refl
 task_is_simple task.Races = refl
@@ -55,9 +56,10 @@ task_is_simple task.Check = refl
 task_is_simple task.Explain = refl
 task_is_simple task.Waves = refl
 task_is_simple task.Diff = refl
+task_is_simple task.Flatten = refl
 
 pub task_is_free : (asked : CommandTask) → is_simple_and_free (app_by asked) ≡ true
-unfolding run_app replay_app races_app check_app explain_app waves_app diff_app
+unfolding run_app replay_app races_app check_app explain_app waves_app diff_app flatten_app
 task_is_free task.Run = refl
 task_is_free task.Replay = refl
 task_is_free task.Races = refl
@@ -65,6 +67,7 @@ task_is_free task.Check = refl
 task_is_free task.Explain = refl
 task_is_free task.Waves = refl
 task_is_free task.Diff = refl
+task_is_free task.Flatten = refl
 
 -- what is found in the words
 
@@ -114,12 +117,13 @@ task_gives task.Diff cmd m p h = record {
   second = required_text cmd m (rules_of task.Diff) 2 (rule (codes "J2") true None) p h refl refl refl refl refl;
   all = given cmd m (rules_of task.Diff) 3 (flag_rule (codes "all")) flag_parser p h refl refl refl refl;
 }
+task_gives task.Flatten cmd m p h = record { file = required_text cmd m (rules_of task.Flatten) 0 (rule (codes "FILE") true None) p h refl refl refl refl refl }
 
 -- what that says of the words
 
 pub task_fails : (asked : CommandTask) (words own : List Text) (e : Error) → Begins words (word_of_task asked) → own ≡ drop 1 words → HasKind (faults_by asked own) e
     → FailsAs words (kind_of e)
-unfolding run_faults replay_faults races_faults check_faults explain_faults waves_faults diff_faults
+unfolding run_faults replay_faults races_faults check_faults explain_faults waves_faults diff_faults flatten_faults
 task_fails task.Run words own e begins same h = run_fails words own e begins same h
 task_fails task.Replay words own e begins same h = replay_fails words own e begins same h
 task_fails task.Races words own e begins same h = races_fails words own e begins same h
@@ -127,10 +131,11 @@ task_fails task.Check words own e begins same h = check_fails words own e begins
 task_fails task.Explain words own e begins same h = explain_fails words own e begins same h
 task_fails task.Waves words own e begins same h = waves_fails words own e begins same h
 task_fails task.Diff words own e begins same h = diff_fails words own e begins same h
+task_fails task.Flatten words own e begins same h = flatten_fails words own e begins same h
 
 pub task_asks : (asked : CommandTask) (words own : List Text) (rows : List Row) (r : Request) → Begins words (word_of_task asked) → own ≡ drop 1 words → rows ≡ rows_by asked own
     → IsAskedBy asked rows r → Asks words r
-unfolding run_rows replay_rows races_rows check_rows explain_rows waves_rows diff_rows
+unfolding run_rows replay_rows races_rows check_rows explain_rows waves_rows diff_rows flatten_rows
 task_asks asked words own rows (request.Run run) begins same found (e, is) = record {
   begins = subst (λ (t : CommandTask). Begins words (word_of_task t)) e begins;
   is_run = subst (λ (r : List Row). IsRunOf r run) (found ∙ (ap (λ (t : CommandTask). rows_by t own) e ∙ ap (rows_by task.Run) same)) is;
@@ -158,6 +163,10 @@ task_asks asked words own rows (request.Waves waves) begins same found (e, is) =
 task_asks asked words own rows (request.Diff diff) begins same found (e, is) = record {
   begins = subst (λ (t : CommandTask). Begins words (word_of_task t)) e begins;
   is_diff = subst (λ (r : List Row). IsDiffOf r diff) (found ∙ (ap (λ (t : CommandTask). rows_by t own) e ∙ ap (rows_by task.Diff) same)) is;
+}
+task_asks asked words own rows (request.Flatten flatten) begins same found (e, is) = record {
+  begins = subst (λ (t : CommandTask). Begins words (word_of_task t)) e begins;
+  is_flatten = subst (λ (r : List Row). IsFlattenOf r flatten) (found ∙ (ap (λ (t : CommandTask). rows_by t own) e ∙ ap (rows_by task.Flatten) same)) is;
 }
 task_asks asked words own rows request.Version begins same found h = absurd h
 
@@ -250,3 +259,4 @@ none_of_every words task.Check none = none.1.1.1.0
 none_of_every words task.Explain none = none.1.1.1.1.0
 none_of_every words task.Waves none = none.1.1.1.1.1.0
 none_of_every words task.Diff none = none.1.1.1.1.1.1.0
+none_of_every words task.Flatten none = none.1.1.1.1.1.1.1.0

@@ -17,10 +17,10 @@ use Rattle.clap.specs.declared.parser.matches.ArgMatches.{ArgMatches}
 use Rattle.arguments.specs.declared.request.NoRequest.{NoRequest}
 use Rattle.arguments.specs.declared.request.NoRequest.TheVariants as no_request
 use Rattle.arguments.specs.Arguments.{IsGivenArgument, flag_parser}
-use Rattle.arguments.specs.CommandWords.{flag_given, number_given, Begins, FailsAs, IsNoRequest, IsNoRequestBy, MayFail, of_run, of_two_orders, of_replay, of_races, of_nothing_observed, of_samples, of_check, of_explain, of_no_telling, of_waves, of_diff, has_two_orders, other_faults, check_app, check_faults, explain_app, explain_faults, explain_rows, TellsNothing, races_app, races_faults, races_rows, replay_app, replay_faults, run_app, run_faults, run_rows, waves_app, waves_faults, diff_app, diff_faults, whole_app}
+use Rattle.arguments.specs.CommandWords.{flag_given, number_given, Begins, FailsAs, IsNoRequest, IsNoRequestBy, MayFail, of_run, of_two_orders, of_replay, of_races, of_nothing_observed, of_samples, of_check, of_explain, of_no_telling, of_waves, of_diff, of_flatten, has_two_orders, other_faults, check_app, check_faults, explain_app, explain_faults, explain_rows, TellsNothing, races_app, races_faults, races_rows, replay_app, replay_faults, run_app, run_faults, run_rows, waves_app, waves_faults, diff_app, diff_faults, flatten_app, flatten_faults, whole_app}
 
 whole_is_free : is_simple_and_free whole_app ≡ true
-unfolding whole_app run_app replay_app races_app check_app explain_app waves_app diff_app
+unfolding whole_app run_app replay_app races_app check_app explain_app waves_app diff_app flatten_app
 whole_is_free = refl
 
 -- what a parse found
@@ -94,6 +94,11 @@ pub diff_fails : (words own : List Text) (e : Error) → Begins words (codes "di
     → FailsAs words (kind_of e)
 diff_fails words own e begins same (inl h) = inl h
 diff_fails words own e begins same (inr h) = inr (of_diff begins (subst (λ (w : List Text). IsAmong (kind_of e) (diff_faults w)) same h))
+
+pub flatten_fails : (words own : List Text) (e : Error) → Begins words (codes "flatten") → own ≡ drop 1 words → HasKind (flatten_faults own) e
+    → FailsAs words (kind_of e)
+flatten_fails words own e begins same (inl h) = inl h
+flatten_fails words own e begins same (inr h) = inr (of_flatten begins (subst (λ (w : List Text). IsAmong (kind_of e) (flatten_faults w)) same h))
 
 -- a run both by a seed and on workers
 pub two_orders_fail : (words own : List Text) (rows : List Row) (e : Error) → Begins words (codes "run") → own ≡ drop 1 words → rows ≡ run_rows own

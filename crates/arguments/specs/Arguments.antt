@@ -117,6 +117,7 @@ parameters_of task.Explain =
     ∷ []
 parameters_of task.Waves = parameter.File ∷ parameter.Journal ∷ parameter.Out ∷ []
 parameters_of task.Diff = parameter.File ∷ parameter.FirstJournal ∷ parameter.SecondJournal ∷ parameter.AllTimes ∷ []
+parameters_of task.Flatten = parameter.File ∷ parameter.FlatOut ∷ []
 
 -- what a number has to be
 abbrev pub number_parser : NumberKind → ValueParser
@@ -152,6 +153,7 @@ form_of parameter.JournalsTo = form.Text
 form_of parameter.Out = form.Needed
 form_of parameter.All = form.Flag
 form_of parameter.AllTimes = form.Flag
+form_of parameter.FlatOut = form.Text
 
 -- the name of a word or an option
 abbrev pub name_of : Parameter → List ℕ
@@ -180,6 +182,7 @@ name_of parameter.JournalsTo = codes "journals"
 name_of parameter.Out = codes "out"
 name_of parameter.All = codes "all"
 name_of parameter.AllTimes = codes "all"
+name_of parameter.FlatOut = codes "out"
 
 -- the rule of a word or an option that takes this, under this name
 abbrev pub rule_by : Form → List ℕ → Rule
@@ -254,6 +257,10 @@ pub record GivesDiff (f : Found) : Type 0 where
   pub second : is_some (first_value f (codes "J2")) ≡ true
   pub all : IsGivenArgument f (codes "all") flag_parser
 
+-- what a parse of `flatten` gives
+pub record GivesFlatten (f : Found) : Type 0 where
+  pub file : is_some (first_value f (codes "FILE")) ≡ true
+
 -- what a parse of the words of a task gives
 abbrev pub Gives : CommandTask → Found → Type 0
 Gives task.Run f = GivesRun f
@@ -263,3 +270,4 @@ Gives task.Check f = GivesCheck f
 Gives task.Explain f = GivesExplain f
 Gives task.Waves f = GivesWaves f
 Gives task.Diff f = GivesDiff f
+Gives task.Flatten f = GivesFlatten f

@@ -20,6 +20,7 @@ use Rattle.arguments.specs.declared.request.CheckRequest.{CheckRequest}
 use Rattle.arguments.specs.declared.request.ExplainRequest.{ExplainRequest}
 use Rattle.arguments.specs.declared.request.WavesRequest.{WavesRequest}
 use Rattle.arguments.specs.declared.request.DiffRequest.{DiffRequest}
+use Rattle.arguments.specs.declared.request.FlattenRequest.{FlattenRequest}
 use Rattle.arguments.specs.declared.parameters.Parameter.{Parameter}
 use Rattle.arguments.specs.declared.parameters.Form.{Form}
 use Rattle.arguments.specs.declared.parameters.Form.TheVariants as form
@@ -171,6 +172,13 @@ diff_app =
     (place (codes "J2")))
     (flag (codes "all"))
 
+-- `flatten` with its word and option
+unfoldable pub flatten_app : App
+flatten_app =
+    with_rule
+    (with_rule (new_app (codes "flatten")) (place (codes "FILE")))
+    (choice (codes "out") None)
+
 -- the command of a task
 abbrev pub app_by : CommandTask → App
 app_by task.Run = run_app
@@ -180,6 +188,7 @@ app_by task.Check = check_app
 app_by task.Explain = explain_app
 app_by task.Waves = waves_app
 app_by task.Diff = diff_app
+app_by task.Flatten = flatten_app
 
 -- a program with the commands of these tasks more
 abbrev pub with_tasks : App → List CommandTask → App
@@ -188,16 +197,17 @@ with_tasks app (asked ∷ more) = with_tasks (with_subcommand app (app_by asked)
 
 -- all tasks
 abbrev pub every_task : List CommandTask
-every_task = task.Run ∷ task.Replay ∷ task.Races ∷ task.Check ∷ task.Explain ∷ task.Waves ∷ task.Diff ∷ []
+every_task = task.Run ∷ task.Replay ∷ task.Races ∷ task.Check ∷ task.Explain ∷ task.Waves ∷ task.Diff ∷ task.Flatten ∷ []
 
 -- the program, which has a version
 abbrev pub bare_app : App
 bare_app = on_top (λ s. record s { has_version = true; subcommand_required = true; arg_required_else_help = true }) (new_app (codes "vsimtx"))
 
--- the program with the seven
+-- the program with the eight
 unfoldable pub whole_app : App
 whole_app =
     with_subcommand
+    (with_subcommand
     (with_subcommand
     (with_subcommand
     (with_subcommand
@@ -209,7 +219,8 @@ whole_app =
     check_app.top)
     explain_app.top)
     waves_app.top)
-    diff_app.top
+    diff_app.top)
+    flatten_app.top
 
 -- what clap finds in the words of a run, from `run` on
 unfoldable pub run_rows : List Text → List Row
@@ -238,6 +249,10 @@ waves_rows = matches_of waves_app
 -- and in those of a comparison of two journals
 unfoldable pub diff_rows : List Text → List Row
 diff_rows = matches_of diff_app
+
+-- and in those of a flat module
+unfoldable pub flatten_rows : List Text → List Row
+flatten_rows = matches_of flatten_app
 
 -- what clap finds in the words of a task
 abbrev pub rows_by : CommandTask → List Text → List Row
@@ -358,6 +373,7 @@ word_of_task task.Check = codes "check"
 word_of_task task.Explain = codes "explain"
 word_of_task task.Waves = codes "waves"
 word_of_task task.Diff = codes "diff"
+word_of_task task.Flatten = codes "flatten"
 
 -- the word after the program's name asks for no task
 abbrev pub AsksNoTask : List Text → Type 0
@@ -420,6 +436,11 @@ pub record IsDiffOf (rows : List Row) (diff : DiffRequest) : Type 0 where
   pub second : first_of (codes "J2") rows ≡ Some diff.second.now
   pub all_times : diff.all_times ≡ flag_given (codes "all") rows
 
+-- this flat module is asked for: of FILE, in OUT, where that is given
+pub record IsFlattenOf (rows : List Row) (flatten : FlattenRequest) : Type 0 where
+  pub file : first_of (codes "FILE") rows ≡ Some flatten.file.now
+  pub out : first_of (codes "out") rows ≡ option_map (λ path. path.now) flatten.out
+
 -- this is asked for by what clap finds in the words of a task
 abbrev pub IsAskedBy : CommandTask → List Row → Request → Type 0
 IsAskedBy asked rows (request.Run run) = (asked ≡ task.Run) × IsRunOf rows run
@@ -429,6 +450,7 @@ IsAskedBy asked rows (request.Check check) = (asked ≡ task.Check) × IsCheckOf
 IsAskedBy asked rows (request.Explain explain) = (asked ≡ task.Explain) × IsExplainOf rows explain
 IsAskedBy asked rows (request.Waves waves) = (asked ≡ task.Waves) × IsWavesOf rows waves
 IsAskedBy asked rows (request.Diff diff) = (asked ≡ task.Diff) × IsDiffOf rows diff
+IsAskedBy asked rows (request.Flatten flatten) = (asked ≡ task.Flatten) × IsFlattenOf rows flatten
 IsAskedBy asked rows request.Version = ⊥
 
 -- the words ask for this run
@@ -466,6 +488,11 @@ pub record AsksDiff (words : List Text) (diff : DiffRequest) : Type 0 where
   pub begins : Begins words (codes "diff")
   pub is_diff : IsDiffOf (diff_rows (drop 1 words)) diff
 
+-- the words ask for this flat module
+pub record AsksFlatten (words : List Text) (flatten : FlattenRequest) : Type 0 where
+  pub begins : Begins words (codes "flatten")
+  pub is_flatten : IsFlattenOf (flatten_rows (drop 1 words)) flatten
+
 -- the words ask for this
 abbrev pub Asks : List Text → Request → Type 0
 Asks words (request.Run run) = AsksRun words run
@@ -475,6 +502,7 @@ Asks words (request.Check check) = AsksCheck words check
 Asks words (request.Explain explain) = AsksExplain words explain
 Asks words (request.Waves waves) = AsksWaves words waves
 Asks words (request.Diff diff) = AsksDiff words diff
+Asks words (request.Flatten flatten) = AsksFlatten words flatten
 Asks words request.Version = Begins words (codes "--version")
 
 -- the kinds of error by which clap may answer the words of a run, from `run` on
@@ -505,6 +533,10 @@ waves_faults = fault_of waves_app
 unfoldable pub diff_faults : List Text → Kinds
 diff_faults = fault_of diff_app
 
+-- those of a flat module
+unfoldable pub flatten_faults : List Text → Kinds
+flatten_faults = fault_of flatten_app
+
 -- those of a task
 abbrev pub faults_by : CommandTask → List Text → Kinds
 faults_by asked = fault_of (app_by asked)
@@ -527,6 +559,7 @@ pub data MayFail (words : List Text) (kind : ErrorKind) : Type 0 where
   of_no_telling : Begins words (codes "explain") → TellsNothing (explain_rows (drop 1 words)) → kind ≡ InvalidValue → MayFail words kind
   of_waves : Begins words (codes "waves") → IsAmong kind (waves_faults (drop 1 words)) → MayFail words kind
   of_diff : Begins words (codes "diff") → IsAmong kind (diff_faults (drop 1 words)) → MayFail words kind
+  of_flatten : Begins words (codes "flatten") → IsAmong kind (flatten_faults (drop 1 words)) → MayFail words kind
   of_others : AsksNoTask words → IsAmong kind (other_faults words) → MayFail words kind
 
 -- memory was refused, or clap may answer the words so

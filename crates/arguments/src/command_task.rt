@@ -13,6 +13,7 @@ pub enum CommandTask {
     Explain,
     Waves,
     Diff,
+    Flatten,
 }
 
 impl CommandTask {
@@ -28,6 +29,7 @@ impl CommandTask {
             CommandTask::Explain,
             CommandTask::Waves,
             CommandTask::Diff,
+            CommandTask::Flatten,
         ]
     }
 
@@ -43,6 +45,7 @@ impl CommandTask {
             CommandTask::Explain => "explain",
             CommandTask::Waves => "waves",
             CommandTask::Diff => "diff",
+            CommandTask::Flatten => "flatten",
         }
     }
 
@@ -56,6 +59,7 @@ impl CommandTask {
             CommandTask::Explain => "vsimtx explain",
             CommandTask::Waves => "vsimtx waves",
             CommandTask::Diff => "vsimtx diff",
+            CommandTask::Flatten => "vsimtx flatten",
         }
     }
 
@@ -72,6 +76,7 @@ impl CommandTask {
                 "Writes the registers of JOURNAL on FILE over time as a value change dump"
             }
             CommandTask::Diff => "Shows where two journals of FILE part, and what differs",
+            CommandTask::Flatten => "Prints the flat module of a whole design of one FILE or more",
         }
     }
 }

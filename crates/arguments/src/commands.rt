@@ -15,6 +15,10 @@ use clap::error::ErrorKind;
 use clap::{ArgMatches, Command, Error};
 use std::alloc::{AllocError, Global};
 
+/// What help says of whole designs.
+const WHOLE: &str =
+    "With --verilog FILE.. in the place of FILE, a design of several modules:\n  [--top NAME] [-I DIR] [-D NAME[=TEXT]] [-P NAME=VALUE]";
+
 /// What is found in the words of a task, from the one on that asks for it.
 pub fn task_matches<'a>(
     alloc: Global,
@@ -102,7 +106,9 @@ fn command<'a>(alloc: Global, task: CommandTask) -> Result<Command<'a>, AllocErr
     ensures app { IfOk result (λ c. app_of c ≡ app_by task) }
 {
     let taken = parameters(task);
-    let mut command = Command::new(alloc, task.word()).about(task.about());
+    let mut command = Command::new(alloc, task.word())
+        .about(task.about())
+        .after_help(WHOLE);
     for parameter in taken {
         command = command.arg(argument(alloc, *parameter))?;
     }

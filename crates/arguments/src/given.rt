@@ -3,15 +3,15 @@
 ghost use Rattle.std.specs.Prelude.{◌≡◌, ◌≤◌, ◌^◌, ◌∷◌, IfSome, None, Some, codes, is_some, option_map, unwrap_or, false, true};
 ghost use Rattle.clap.specs.Words.{first_of, first_value, found_of, rows_of};
 ghost use Rattle.model.specs.Runs.{last_time};
-ghost use Rattle.arguments.specs.Arguments.{IsGivenArgument, GivesRun, GivesReplay, GivesRaces, GivesCheck, GivesExplain, GivesWaves, GivesDiff, flag_parser, workers_parser, until_parser, entries_parser, seed_parser};
+ghost use Rattle.arguments.specs.Arguments.{IsGivenArgument, GivesRun, GivesReplay, GivesRaces, GivesCheck, GivesExplain, GivesWaves, GivesDiff, GivesFlatten, flag_parser, workers_parser, until_parser, entries_parser, seed_parser};
 ghost use Rattle.arguments.specs.Observing.{IsObserved, ObservesNothing};
 ghost use Rattle.arguments.specs.Options.{CanRun, CanSearch};
-ghost use Rattle.arguments.specs.CommandWords.{HasNoRadix, IsCheckOf, IsDiffOf, IsExplainOf, IsRacesOf, IsReplayOf, IsRunOf, IsWavesOf, at_least_two, is_behind, search_options_of, tells_no_entry, tells_no_time, flag_given, has_two_orders, number_given, options_of, radix_given, radix_of};
+ghost use Rattle.arguments.specs.CommandWords.{HasNoRadix, IsCheckOf, IsDiffOf, IsExplainOf, IsFlattenOf, IsRacesOf, IsReplayOf, IsRunOf, IsWavesOf, at_least_two, is_behind, search_options_of, tells_no_entry, tells_no_time, flag_given, has_two_orders, number_given, options_of, radix_given, radix_of};
 
 use crate::observed::{Observed, observed_by};
 use crate::request::{
-    CheckRequest, DiffRequest, ExplainRequest, RacesRequest, ReplayRequest, RunRequest,
-    WavesRequest,
+    CheckRequest, DiffRequest, ExplainRequest, FlattenRequest, RacesRequest, ReplayRequest,
+    RunRequest, WavesRequest,
 };
 use crate::run_options::RunOptions;
 use crate::search_options::SearchOptions;
@@ -102,6 +102,17 @@ pub fn check_request<'a>(matches: &ArgMatches<'a>) -> CheckRequest<'a>
     CheckRequest {
         file: given_word(matches, "FILE"),
         all: given_flag(matches, "all"),
+    }
+}
+
+/// What the words of `flatten` ask for: of which source, and where its text is written, if that is given.
+pub fn flatten_request<'a>(matches: &ArgMatches<'a>) -> FlattenRequest<'a>
+    requires { GivesFlatten (found_of matches.now) }
+    ensures { IsFlattenOf (rows_of (found_of matches.now)) result }
+{
+    FlattenRequest {
+        file: given_word(matches, "FILE"),
+        out: given_text(matches, "out"),
     }
 }
 

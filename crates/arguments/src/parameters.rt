@@ -50,6 +50,7 @@ pub enum Parameter {
     Out,
     All,
     AllTimes,
+    FlatOut,
 }
 
 const FROM: &str = "First entry that is told, 1 to 4294967295 [default: 1]";
@@ -73,6 +74,8 @@ const JOURNAL_TO: &str = "Where to write the journal";
 const JOURNALS_TO: &str = "Where to write a journal of each text: PREFIX.1.journal, ..";
 
 const OUT: &str = "Where to write the value change dump";
+
+const FLAT_OUT: &str = "Where to write the flat module [default: standard output]";
 
 const ALL: &str = "Shows each note at each of its places";
 
@@ -147,7 +150,8 @@ impl Parameter {
             | Parameter::Radix
             | Parameter::Registers
             | Parameter::JournalTo
-            | Parameter::JournalsTo => Form::Text,
+            | Parameter::JournalsTo
+            | Parameter::FlatOut => Form::Text,
             Parameter::Out => Form::Needed,
             Parameter::Workers => Form::Number(NumberKind::Workers),
             Parameter::MaxEntries
@@ -191,7 +195,7 @@ impl Parameter {
             Parameter::Registers => "registers",
             Parameter::JournalTo => "journal",
             Parameter::JournalsTo => "journals",
-            Parameter::Out => "out",
+            Parameter::Out | Parameter::FlatOut => "out",
             Parameter::All | Parameter::AllTimes => "all",
         }
     }
@@ -205,7 +209,7 @@ impl Parameter {
             Parameter::Until | Parameter::FromTime | Parameter::ToTime => "T",
             Parameter::Radix => "R",
             Parameter::Registers => "NAMES",
-            Parameter::JournalTo | Parameter::Out => "OUT",
+            Parameter::JournalTo | Parameter::Out | Parameter::FlatOut => "OUT",
             Parameter::JournalsTo => "PREFIX",
             _ => "N",
         }
@@ -238,6 +242,7 @@ impl Parameter {
             Parameter::Out => OUT,
             Parameter::All => ALL,
             Parameter::AllTimes => ALL_TIMES,
+            Parameter::FlatOut => FLAT_OUT,
         }
     }
 }

@@ -18,9 +18,9 @@ ghost use Rattle.arguments.specs.declared.observed.Observed.TheVariants.{Lines};
 use crate::command_task::CommandTask;
 use crate::commands::{missing, said_in_vain, task_matches, whole_matches};
 use crate::given::{
-    check_request, diff_request, explain_request, given_observed, gives_samples, gives_two_orders,
-    has_no_radix, races_request, replay_request, run_request, tells_no_entry, tells_no_time,
-    waves_request,
+    check_request, diff_request, explain_request, flatten_request, given_observed, gives_samples,
+    gives_two_orders, has_no_radix, races_request, replay_request, run_request, tells_no_entry,
+    tells_no_time, waves_request,
 };
 use crate::observed::Observed;
 use crate::request::{NoRequest, Request};
@@ -117,6 +117,7 @@ fn asked_request<'a>(
         CommandTask::Explain => asked_telling(alloc, matches),
         CommandTask::Waves => Ok(Request::Waves(waves_request(matches))),
         CommandTask::Diff => Ok(Request::Diff(diff_request(matches))),
+        CommandTask::Flatten => Ok(Request::Flatten(flatten_request(matches))),
     }
 }
 

@@ -17,6 +17,7 @@ pub enum Request<'a> {
     Explain(ExplainRequest<'a>),
     Waves(WavesRequest<'a>),
     Diff(DiffRequest<'a>),
+    Flatten(FlattenRequest<'a>),
     Version,
 }
 
@@ -85,6 +86,13 @@ pub struct DiffRequest<'a> {
     pub first: &'a str,
     pub second: &'a str,
     pub all_times: bool,
+}
+
+/// `flatten FILE`, with a path for the text where one is given.
+#[derive(Drop)]
+pub struct FlattenRequest<'a> {
+    pub file: &'a str,
+    pub out: Option<&'a str>,
 }
 
 /// Why there is no request: help was asked for, the words are wrong, or memory was refused. A text

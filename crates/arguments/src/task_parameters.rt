@@ -6,9 +6,9 @@ ghost use Rattle.arguments.specs.Arguments.{parameters_of};
 use crate::command_task::CommandTask;
 use crate::parameters::Parameter;
 use crate::parameters::Parameter::{
-    All, AllTimes, File, FirstJournal, From, FromTime, Journal, JournalTo, JournalsTo, MaxEntries,
-    MaxMemory, MaxStates, MaxTexts, Observe, Out, Radix, Registers, Samples, SecondJournal, Seed,
-    To, ToTime, Until, Versions, Workers,
+    All, AllTimes, File, FirstJournal, FlatOut, From, FromTime, Journal, JournalTo, JournalsTo,
+    MaxEntries, MaxMemory, MaxStates, MaxTexts, Observe, Out, Radix, Registers, Samples,
+    SecondJournal, Seed, To, ToTime, Until, Versions, Workers,
 };
 
 /// What the command of a task takes, in the order in which help shows it.
@@ -28,5 +28,6 @@ pub fn parameters(task: CommandTask) -> &'static [Parameter]
         ],
         CommandTask::Waves => &[File, Journal, Out],
         CommandTask::Diff => &[File, FirstJournal, SecondJournal, AllTimes],
+        CommandTask::Flatten => &[File, FlatOut],
     }
 }

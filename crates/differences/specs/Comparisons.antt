@@ -5,7 +5,7 @@ use Rattle.model.specs.Design.{Design}
 use Rattle.model.specs.States.{State}
 use Rattle.model.specs.Runs.{Effect, has_any, is_quiet, run}
 use Rattle.design.specs.Compiled.{Compiled, design_of}
-use Rattle.locations.specs.SourceLocations.{AreProcesses}
+use Rattle.locations.specs.declared.location.ProcessLocation.{ProcessLocation}
 use Rattle.explain.specs.declared.phrases.SourceNames.{SourceNames}
 use Rattle.explain.specs.EntryLines.{plain_style}
 use Rattle.explain.specs.ExplainedEnd.{IsEndText}
@@ -70,11 +70,10 @@ pub record IsCompared (names : SourceNames) (all : Bool) (design : Design) (firs
       ++ earlier_end_text one.state.time other.state.time
   pub same_is : r.same ≡ (same_lines && (are_alike ends && not (has_any (flat_map (rows_at design first second) times))))
 
--- so they are compared on the design of a source, whose registers and processes name them
-pub record IsComparison (source : List ℕ) (code : Compiled) (all : Bool) (first second : List Entry) (r : Comparison) : Type 0 where
+-- so they are compared on a design, whose registers and processes name them
+pub record IsComparison (processes : List ProcessLocation) (code : Compiled) (all : Bool) (first second : List Entry) (r : Comparison) : Type 0 where
   pub names : SourceNames
-  pub source_is : names.source.now ≡ source
   pub design_is : names.design.now ≡ code
-  pub are_processes : AreProcesses source names.processes.now
+  pub processes_are : names.processes.now ≡ processes
   pub style_is : names.style ≡ plain_style
   pub compared : IsCompared names all (design_of code) first second r

@@ -17,15 +17,15 @@ use crate::told_rows::told_rows;
 use crate::value_difference::ValueDifference;
 use design::Design;
 use explain::{EntryStyle, SourceNames, has_any, push_entry_line};
-use locations::processes;
+use locations::ProcessLocation;
 use model::entry::Entry;
 use progress::Progress;
 use std::alloc::{AllocError, Global};
 
-/// Two journals on the design of a source, and whether each register that differs is told at each time, or at its first alone.
+/// Two journals on a design, whose processes begin at these places, and whether each register that differs is told at each time, or at its first alone.
 #[derive(Clone, Copy)]
 pub struct ComparedJournals<'a> {
-    pub source: &'a [u8],
+    pub processes: &'a [ProcessLocation],
     pub design: &'a Design,
     pub first: &'a [Entry],
     pub second: &'a [Entry],
@@ -158,7 +158,7 @@ fn compare_by<P: Progress>(
     Ok(Comparison { text, same })
 }
 
-/// Compares two journals on the design of a source: where they part, in which line they differ first, how they end, and each register
+/// Compares two journals on a design, whose processes people call so: where they part, in which line they differ first, how they end, and each register
 /// that differs when a time passes, up to the end of the run that ends first. Each journal has to be lawful: else the first entry of
 /// one that isn't taken, and why. `progress` is told how many entries are taken.
 pub fn compare<P: Progress>(
@@ -166,17 +166,12 @@ pub fn compare<P: Progress>(
     journals: ComparedJournals<'_>,
     progress: &P,
 ) -> Result<Comparison, CompareFault>
-    ensures compared { IfOk result (IsComparison journals.entry.source.now journals.entry.design.now journals.entry.all journals.entry.first.now journals.entry.second.now) }
+    ensures compared { IfOk result (IsComparison journals.entry.processes.now journals.entry.design.now journals.entry.all journals.entry.first.now journals.entry.second.now) }
     ensures fault { IfErr result (IsCompareFaultOf journals.entry.design.now journals.entry.first.now journals.entry.second.now) }
 {
-    let found = match processes(alloc, journals.source) {
-        Ok(found) => found,
-        Err(_) => return Err(CompareFault::Memory),
-    };
     let names = SourceNames {
-        source: journals.source,
         design: journals.design,
-        processes: &found,
+        processes: journals.processes,
         style: EntryStyle::plain(),
     };
     compare_by(

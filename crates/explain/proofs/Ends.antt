@@ -1,4 +1,4 @@
--- Which fault a call ends with that reads no source and no journal.
+-- Which fault a call ends with that reads no journal.
 use Rattle.std.proofs.Common.{◌≡◌, subst, refl, sym, ap, ◌∙◌, ℕ, List, Option, Some, Result, Ok, Err, OnOk, IfErr}
 use Rattle.std.specs.Prelude.{IsSome}
 use Rattle.model.specs.declared.entry.Entry.{Entry}
@@ -7,7 +7,8 @@ use Rattle.design.specs.Compiled.{Compiled, design_of}
 use Rattle.journal.specs.declared.fault.ReadFault.{ReadFault}
 use Rattle.replay.specs.declared.fault.ReplayFault.{ReplayFault}
 use Rattle.replay.specs.JournalFaults.{IsFaultOf}
-use Rattle.replay.specs.ReplayBytes.{AreRead, IsReplayFault}
+use Rattle.locations.specs.declared.location.ProcessLocation.{ProcessLocation}
+use Rattle.replay.specs.ReplayBytes.{IsJournalFault, IsReadJournal}
 use Rattle.explain.specs.declared.failure.ExplainFault.{ExplainFault}
 use Rattle.explain.specs.declared.failure.ExplainFault.TheVariants.{Read, Replay, CannotWrite, Memory}
 use Rattle.explain.specs.declared.telling.Presentation.{Presentation}
@@ -60,58 +61,56 @@ begun_if (Err CannotWrite) P is = tt
 begun_if (Err Memory) P is = tt
 
 -- by these names and this presentation
-pub explains_if : {X E : Type 0} (r : Result X E) (source : List ℕ) (code : Compiled) (registers : Option (List ℕ)) (presentation : Presentation) (journal : List Entry) (old new : Option (List ℕ)) (t : ExplanationOptions)
-    → IsTelling source code registers presentation t → OnOk r (TellsAll t journal old new) → OnOk r (Explains source code registers presentation journal old new)
-explains_if (Ok u) source code registers presentation journal old new t is tells = record { telling = t; is_telling = is; tells = tells }
-explains_if (Err e) source code registers presentation journal old new t is tells = tt
+pub explains_if : {X E : Type 0} (r : Result X E) (processes : List ProcessLocation) (code : Compiled) (registers : Option (List ℕ)) (presentation : Presentation) (journal : List Entry) (old new : Option (List ℕ)) (t : ExplanationOptions)
+    → IsTelling processes code registers presentation t → OnOk r (TellsAll t journal old new) → OnOk r (Explains processes code registers presentation journal old new)
+explains_if (Ok u) processes code registers presentation journal old new t is tells = record { telling = t; is_telling = is; tells = tells }
+explains_if (Err e) processes code registers presentation journal old new t is tells = tt
 
-pub explains_fault_if : {X : Type 0} (r : Result X ExplainFault) (source : List ℕ) (code : Compiled) (registers : Option (List ℕ)) (presentation : Presentation) (journal : List Entry) (old new : Option (List ℕ)) (t : ExplanationOptions)
-    → IsTelling source code registers presentation t → IfExplainReplay r (TellsFault t journal old new) → IfExplainReplay r (ExplainsFault source code registers presentation journal old new)
-explains_fault_if (Ok u) source code registers presentation journal old new t is tells = tt
-explains_fault_if (Err (Read f)) source code registers presentation journal old new t is tells = tt
-explains_fault_if (Err (Replay f)) source code registers presentation journal old new t is tells = record { telling = t; is_telling = is; tells = tells }
-explains_fault_if (Err CannotWrite) source code registers presentation journal old new t is tells = tt
-explains_fault_if (Err Memory) source code registers presentation journal old new t is tells = tt
+pub explains_fault_if : {X : Type 0} (r : Result X ExplainFault) (processes : List ProcessLocation) (code : Compiled) (registers : Option (List ℕ)) (presentation : Presentation) (journal : List Entry) (old new : Option (List ℕ)) (t : ExplanationOptions)
+    → IsTelling processes code registers presentation t → IfExplainReplay r (TellsFault t journal old new) → IfExplainReplay r (ExplainsFault processes code registers presentation journal old new)
+explains_fault_if (Ok u) processes code registers presentation journal old new t is tells = tt
+explains_fault_if (Err (Read f)) processes code registers presentation journal old new t is tells = tt
+explains_fault_if (Err (Replay f)) processes code registers presentation journal old new t is tells = record { telling = t; is_telling = is; tells = tells }
+explains_fault_if (Err CannotWrite) processes code registers presentation journal old new t is tells = tt
+explains_fault_if (Err Memory) processes code registers presentation journal old new t is tells = tt
 
--- on the design of the source
-pub text_if : {X E : Type 0} (r : Result X E) (source : List ℕ) (code : Compiled) (registers : Option (List ℕ)) (presentation : Presentation) (journal : List Entry) (left old new : Option (List ℕ))
-    → AreRead source left code journal → OnOk r (Explains source code registers presentation journal old new) → OnOk r (ExplainsText source code registers presentation left old new)
-text_if (Ok u) source code registers presentation journal left old new read explains = record { journal = journal; are_read = read; explains = explains }
-text_if (Err e) source code registers presentation journal left old new read explains = tt
+-- of what was read
+pub text_if : {X E : Type 0} (r : Result X E) (processes : List ProcessLocation) (code : Compiled) (registers : Option (List ℕ)) (presentation : Presentation) (journal : List Entry) (left old new : Option (List ℕ))
+    → IsReadJournal left journal → OnOk r (Explains processes code registers presentation journal old new) → OnOk r (ExplainsText processes code registers presentation left old new)
+text_if (Ok u) processes code registers presentation journal left old new read explains = record { journal = journal; is_read = read; explains = explains }
+text_if (Err e) processes code registers presentation journal left old new read explains = tt
 
-pub text_fault_if : {X : Type 0} (r : Result X ExplainFault) (source : List ℕ) (code : Compiled) (registers : Option (List ℕ)) (presentation : Presentation) (journal : List Entry) (left old new : Option (List ℕ))
-    → AreRead source left code journal → IfExplainReplay r (ExplainsFault source code registers presentation journal old new) → IfExplainReplay r (ExplainsTextFault source code registers presentation left old new)
-text_fault_if (Ok u) source code registers presentation journal left old new read explains = tt
-text_fault_if (Err (Read f)) source code registers presentation journal left old new read explains = tt
-text_fault_if (Err (Replay f)) source code registers presentation journal left old new read explains = record { journal = journal; are_read = read; explains = explains }
-text_fault_if (Err CannotWrite) source code registers presentation journal left old new read explains = tt
-text_fault_if (Err Memory) source code registers presentation journal left old new read explains = tt
+pub text_fault_if : {X : Type 0} (r : Result X ExplainFault) (processes : List ProcessLocation) (code : Compiled) (registers : Option (List ℕ)) (presentation : Presentation) (journal : List Entry) (left old new : Option (List ℕ))
+    → IsReadJournal left journal → IfExplainReplay r (ExplainsFault processes code registers presentation journal old new) → IfExplainReplay r (ExplainsTextFault processes code registers presentation left old new)
+text_fault_if (Ok u) processes code registers presentation journal left old new read explains = tt
+text_fault_if (Err (Read f)) processes code registers presentation journal left old new read explains = tt
+text_fault_if (Err (Replay f)) processes code registers presentation journal left old new read explains = record { journal = journal; is_read = read; explains = explains }
+text_fault_if (Err CannotWrite) processes code registers presentation journal left old new read explains = tt
+text_fault_if (Err Memory) processes code registers presentation journal left old new read explains = tt
 
 -- a journal that is told to its end is lawful
 lawful : (code : Compiled) (journal : List Entry) (e : Effect) → run (design_of code) journal ≡ Some e → IsLawful (design_of code) journal
 lawful code journal e ran = subst (λ (o : Option Effect). IsSome o) (sym ran) refl
 
-pub lawful_if : {X E : Type 0} (r : Result X E) (source : List ℕ) (code : Compiled) (registers : Option (List ℕ)) (presentation : Presentation) (journal : List Entry) (left old new : Option (List ℕ))
-    → AreRead source left code journal → OnOk r (Explains source code registers presentation journal old new) → OnOk r (IsLawfulJournalText source left)
-lawful_if (Ok u) source code registers presentation journal left old new read explains = record {
-  design = code;
+pub lawful_if : {X E : Type 0} (r : Result X E) (processes : List ProcessLocation) (code : Compiled) (registers : Option (List ℕ)) (presentation : Presentation) (journal : List Entry) (left old new : Option (List ℕ))
+    → IsReadJournal left journal → OnOk r (Explains processes code registers presentation journal old new) → OnOk r (IsLawfulJournalText code left)
+lawful_if (Ok u) processes code registers presentation journal left old new read explains = record {
   journal = journal;
-  are_read = read;
+  is_read = read;
   lawful = lawful code journal explains.tells.effect
       (ap (λ (c : Compiled). run (design_of c) journal) (sym explains.is_telling.design_is) ∙ explains.tells.is_run);
 }
-lawful_if (Err e) source code registers presentation journal left old new read explains = tt
+lawful_if (Err e) processes code registers presentation journal left old new read explains = tt
 
 -- a fault that is told is one of the journal
-pub replay_if : {X : Type 0} (r : Result X ExplainFault) (source : List ℕ) (code : Compiled) (registers : Option (List ℕ)) (presentation : Presentation) (journal : List Entry) (left old new : Option (List ℕ))
-    → AreRead source left code journal → IfExplainReplay r (ExplainsFault source code registers presentation journal old new) → IfExplainReplay r (IsReplayFault source left)
-replay_if (Ok u) source code registers presentation journal left old new read explains = tt
-replay_if (Err (Read f)) source code registers presentation journal left old new read explains = tt
-replay_if (Err (Replay f)) source code registers presentation journal left old new read explains = record {
-  design = code;
+pub replay_if : {X : Type 0} (r : Result X ExplainFault) (processes : List ProcessLocation) (code : Compiled) (registers : Option (List ℕ)) (presentation : Presentation) (journal : List Entry) (left old new : Option (List ℕ))
+    → IsReadJournal left journal → IfExplainReplay r (ExplainsFault processes code registers presentation journal old new) → IfExplainReplay r (IsJournalFault code left)
+replay_if (Ok u) processes code registers presentation journal left old new read explains = tt
+replay_if (Err (Read f)) processes code registers presentation journal left old new read explains = tt
+replay_if (Err (Replay f)) processes code registers presentation journal left old new read explains = record {
   journal = journal;
-  are_read = read;
+  is_read = read;
   is_fault = subst (λ (c : Compiled). IsFaultOf c journal f) explains.is_telling.design_is explains.tells.is_fault;
 }
-replay_if (Err CannotWrite) source code registers presentation journal left old new read explains = tt
-replay_if (Err Memory) source code registers presentation journal left old new read explains = tt
+replay_if (Err CannotWrite) processes code registers presentation journal left old new read explains = tt
+replay_if (Err Memory) processes code registers presentation journal left old new read explains = tt

@@ -5,16 +5,15 @@ use Rattle.model.specs.Runs.{IsLawful}
 use Rattle.design.specs.Compiled.{Compiled, design_of}
 use Rattle.journal.specs.declared.fault.ReadFault.{ReadFault}
 use Rattle.replay.specs.declared.fault.ReplayFault.{ReplayFault}
-use Rattle.replay.specs.ReplayBytes.{AreRead}
+use Rattle.replay.specs.ReplayBytes.{IsReadJournal}
 use Rattle.replay.specs.JournalFaults.{IsFaultOf}
 use Rattle.explain.specs.declared.failure.ExplainFault.{ExplainFault}
 use Rattle.explain.specs.declared.failure.ExplainFault.TheVariants.{Read, Replay, CannotWrite, Memory}
 
--- The source describes a design, and what was left to read is the text of a journal that is lawful for it.
-pub record IsLawfulJournalText (source : List ℕ) (left : Option (List ℕ)) : Type 0 where
-  pub design : Compiled
+-- What was left to read is the text of a journal that is lawful for a design.
+pub record IsLawfulJournalText (design : Compiled) (left : Option (List ℕ)) : Type 0 where
   pub journal : List Entry
-  pub are_read : AreRead source left design journal
+  pub is_read : IsReadJournal left journal
   pub lawful : IsLawful (design_of design) journal
 
 -- A fault of a replay is one of these entries.

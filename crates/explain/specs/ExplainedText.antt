@@ -5,9 +5,9 @@ use Rattle.model.specs.declared.entry.Entry.{Entry}
 use Rattle.model.specs.Design.{Design}
 use Rattle.model.specs.Runs.{Effect, run}
 use Rattle.design.specs.Compiled.{Compiled, design_of}
-use Rattle.locations.specs.SourceLocations.{AreProcesses}
+use Rattle.locations.specs.declared.location.ProcessLocation.{ProcessLocation}
 use Rattle.replay.specs.declared.fault.ReplayFault.{ReplayFault}
-use Rattle.replay.specs.ReplayBytes.{AreRead}
+use Rattle.replay.specs.ReplayBytes.{IsReadJournal}
 use Rattle.replay.specs.JournalFaults.{IsFaultOf}
 use Rattle.explain.specs.declared.telling.ExplanationOptions.{ExplanationOptions}
 use Rattle.explain.specs.declared.phrases.EntryStyle.{EntryStyle}
@@ -94,35 +94,34 @@ pub record TellsFault (t : ExplanationOptions) (journal : List Entry) (old new :
   pub are_lines : AreEntryTexts t journal before lines
   pub grown : Appends old new (lines ++ refusal_text t.names effect.state fault)
 
--- what is told is of this design, by the processes of its source, of these registers alone, if any are asked for, and of this presentation
-pub record IsTelling (source : List ℕ) (code : Compiled) (registers : Option (List ℕ)) (presentation : Presentation) (t : ExplanationOptions) : Type 0 where
-  pub source_is : t.names.source.now ≡ source
+-- what is told is of this design, by its processes, of these registers alone, if any are asked for, and of this presentation
+pub record IsTelling (processes : List ProcessLocation) (code : Compiled) (registers : Option (List ℕ)) (presentation : Presentation) (t : ExplanationOptions) : Type 0 where
   pub design_is : t.names.design.now ≡ code
-  pub are_processes : AreProcesses source t.names.processes.now
+  pub processes_are : t.names.processes.now ≡ processes
   pub registers_are : wanted_registers t.registers ≡ registers
   pub presentation_is : t.presentation ≡ presentation
   pub style_is : t.names.style ≡ presentation.style
 
 -- so a journal was told to its end
-pub record Explains (source : List ℕ) (code : Compiled) (registers : Option (List ℕ)) (presentation : Presentation) (journal : List Entry) (old new : Option (List ℕ)) : Type 0 where
+pub record Explains (processes : List ProcessLocation) (code : Compiled) (registers : Option (List ℕ)) (presentation : Presentation) (journal : List Entry) (old new : Option (List ℕ)) : Type 0 where
   pub telling : ExplanationOptions
-  pub is_telling : IsTelling source code registers presentation telling
+  pub is_telling : IsTelling processes code registers presentation telling
   pub tells : TellsAll telling journal old new
 
 -- so it was told up to its fault
-pub record ExplainsFault (source : List ℕ) (code : Compiled) (registers : Option (List ℕ)) (presentation : Presentation) (journal : List Entry) (old new : Option (List ℕ)) (fault : ReplayFault) : Type 0 where
+pub record ExplainsFault (processes : List ProcessLocation) (code : Compiled) (registers : Option (List ℕ)) (presentation : Presentation) (journal : List Entry) (old new : Option (List ℕ)) (fault : ReplayFault) : Type 0 where
   pub telling : ExplanationOptions
-  pub is_telling : IsTelling source code registers presentation telling
+  pub is_telling : IsTelling processes code registers presentation telling
   pub tells : TellsFault telling journal old new fault
 
--- the journal that was left to read was told to its end, on this design of the source
-pub record ExplainsText (source : List ℕ) (design : Compiled) (registers : Option (List ℕ)) (presentation : Presentation) (left old new : Option (List ℕ)) : Type 0 where
+-- the journal that was left to read was told to its end, on this design
+pub record ExplainsText (processes : List ProcessLocation) (design : Compiled) (registers : Option (List ℕ)) (presentation : Presentation) (left old new : Option (List ℕ)) : Type 0 where
   pub journal : List Entry
-  pub are_read : AreRead source left design journal
-  pub explains : Explains source design registers presentation journal old new
+  pub is_read : IsReadJournal left journal
+  pub explains : Explains processes design registers presentation journal old new
 
--- the journal that was left to read was told up to its fault, on this design of the source
-pub record ExplainsTextFault (source : List ℕ) (design : Compiled) (registers : Option (List ℕ)) (presentation : Presentation) (left old new : Option (List ℕ)) (fault : ReplayFault) : Type 0 where
+-- the journal that was left to read was told up to its fault, on this design
+pub record ExplainsTextFault (processes : List ProcessLocation) (design : Compiled) (registers : Option (List ℕ)) (presentation : Presentation) (left old new : Option (List ℕ)) (fault : ReplayFault) : Type 0 where
   pub journal : List Entry
-  pub are_read : AreRead source left design journal
-  pub explains : ExplainsFault source design registers presentation journal old new fault
+  pub is_read : IsReadJournal left journal
+  pub explains : ExplainsFault processes design registers presentation journal old new fault

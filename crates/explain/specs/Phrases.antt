@@ -1,5 +1,5 @@
 -- The parts of the lines: names and quoted text.
-use Rattle.std.specs.Prelude.{ℕ, ◌==◌, Bool, true, false, if◌then◌else◌, List, [], ◌∷◌, ◌++◌, slice_get, Option, Some, None, codes, decimal}
+use Rattle.std.specs.Prelude.{ℕ, ◌==◌, Bool, true, false, if◌then◌else◌, List, [], ◌∷◌, ◌++◌, slice_get, Option, Some, None, codes, decimal, string_bytes}
 use Rattle.model.specs.Syntax.{Text}
 use Rattle.locations.specs.declared.location.ProcessLocation.{ProcessLocation}
 use Rattle.explain.specs.declared.phrases.SourceNames.{SourceNames}
@@ -33,11 +33,11 @@ abbrev pub word_text : Bool → List ℕ
 word_text true = codes "always"
 word_text false = codes "initial"
 
--- the word and the line of a process, where they are known
+-- the word of a process, and where it stands, where they are known
 abbrev pub location_text : Option ProcessLocation → List ℕ
-location_text (Some process) = codes ", " ++ word_text process.always ++ codes " at line " ++ decimal process.location.line
+location_text (Some process) = codes ", " ++ word_text process.always ++ codes " at " ++ string_bytes process.at
 location_text None = []
 
--- a process: its number, its word and its line
+-- a process: its number, its word and where it stands
 abbrev pub process_text : SourceNames → ℕ → List ℕ
 process_text names p = codes "process " ++ decimal p ++ location_text (slice_get names.processes.now p)

@@ -26,4 +26,4 @@ pub use entry_text::push_entry_line;
 pub use failure::ExplainFault;
 pub use lines::has_any;
 pub use phrases::{EntryStyle, SourceNames, push_labelled, push_register};
-pub use telling::{ExplainedSource, Presentation, explain, explain_next};
+pub use telling::{ExplainedDesign, Presentation, explain, explain_next};

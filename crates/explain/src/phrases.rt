@@ -29,10 +29,9 @@ impl EntryStyle {
     }
 }
 
-/// What registers and processes are called by, a source with its design and its processes; and how entries are written.
+/// What registers and processes are called by, a design and its processes; and how entries are written.
 #[derive(Clone, Copy)]
 pub struct SourceNames<'a> {
-    pub source: &'a [u8],
     pub design: &'a Design,
     pub processes: &'a [ProcessLocation],
     pub style: EntryStyle,
@@ -115,16 +114,17 @@ fn word_of(process: &ProcessLocation) -> &'static str
     if process.always { "always" } else { "initial" }
 }
 
-// Puts the word of a process and the line in which it stands behind a text, with a comma before them.
+// Puts the word of a process and where it stands behind a text, with a comma before them.
 fn push_place(text: &mut Vec<u8>, process: &ProcessLocation) -> Result<(), AllocError>
     ensures { OnOk result (text.new.items ≡ text.old.items ++ location_text (Some process.now)) }
 {
     text.extend_from_slice(b", ")?;
     text.extend_from_slice(word_of(process).as_bytes())?;
-    push_labelled(text, b" at line ", process.location.line as u64)
+    text.extend_from_slice(b" at ")?;
+    text.extend_from_slice(process.at.as_bytes())
 }
 
-// Puts the word and the line of a process behind a text.
+// Puts the word of a process, and where it stands, behind a text.
 fn push_begin(text: &mut Vec<u8>, names: &SourceNames<'_>, process: u32) -> Result<(), AllocError>
     ensures { OnOk result (text.new.items ≡ text.old.items ++ location_text (slice_get names.entry.now.processes.now process)) }
 {
@@ -134,7 +134,7 @@ fn push_begin(text: &mut Vec<u8>, names: &SourceNames<'_>, process: u32) -> Resu
     }
 }
 
-/// Puts a process behind a text: its number, its word and its line.
+/// Puts a process behind a text: its number, its word and where it stands.
 pub(crate) fn push_process(
     text: &mut Vec<u8>,
     names: &SourceNames<'_>,

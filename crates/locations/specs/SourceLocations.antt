@@ -1,5 +1,5 @@
 -- Where bytes, tokens and processes stand in a source.
-use Rattle.std.specs.Prelude.{◌≡◌, ℕ, ◌+◌, ◌-◌, min, List, [], ◌∷◌, ◌++◌, length, take, Bool, true, false, nat_le, if◌then◌else◌}
+use Rattle.std.specs.Prelude.{◌≡◌, ℕ, ◌+◌, ◌-◌, min, List, [], ◌∷◌, ◌++◌, length, map, take, codes, decimal, string_bytes, Bool, true, false, nat_le, if◌then◌else◌}
 use Rattle.tokens.specs.declared.token.Kind.{Kind}
 use Rattle.tokens.specs.declared.token.Kind.TheVariants as k
 use Rattle.locations.specs.declared.location.Location.{Location}
@@ -38,12 +38,20 @@ abbrev pub is_always : Kind → Bool
 is_always k.Always = true
 is_always kind = false
 
+-- A process: whether it begins with `always`, and where that word stands, in words.
+pub record PlainProcess : Type 0 where
+  pub always : Bool
+  pub at : List ℕ
+
+abbrev pub plain_process : ProcessLocation → PlainProcess
+plain_process p = record { always = p.always; at = string_bytes p.at }
+
 -- The process that a token begins, else none.
-abbrev pub process_in : List ℕ → PlainSpot → List ProcessLocation
-process_in source s = if is_process s.token.kind then record { always = is_always s.token.kind; location = location_of source s.byte } ∷ [] else []
+abbrev pub process_in : List ℕ → PlainSpot → List PlainProcess
+process_in source s = if is_process s.token.kind then record { always = is_always s.token.kind; at = codes "line " ++ decimal (location_of source s.byte).line } ∷ [] else []
 
 -- The processes that tokens begin.
-abbrev pub process_list : List ℕ → List PlainSpot → List ProcessLocation
+abbrev pub process_list : List ℕ → List PlainSpot → List PlainProcess
 process_list source [] = []
 process_list source (s ∷ ss) = process_in source s ++ process_list source ss
 
@@ -51,4 +59,4 @@ process_list source (s ∷ ss) = process_in source s ++ process_list source ss
 pub record AreProcesses (source : List ℕ) (processes : List ProcessLocation) : Type 0 where
   pub spots : List PlainSpot
   pub are_spots : AreSpots source 0 spots
-  pub stand : processes ≡ process_list source spots
+  pub stand : map plain_process processes ≡ process_list source spots

@@ -1,8 +1,8 @@
 //! Where a byte, a token or a process stands in a source.
 
-ghost use Rattle.std.specs.Prelude.{◌≡◌, ◌++◌, take, map, length, IfOk, IfErr, OnOk};
+ghost use Rattle.std.specs.Prelude.{◌≡◌, ◌++◌, take, map, length, codes, decimal, string_bytes, IfOk, IfErr, OnOk};
 ghost use Rattle.locations.specs.PlainSpots.{plain_spot};
-ghost use Rattle.locations.specs.SourceLocations.{location_of, byte_of, is_always, is_process, process_in, AreProcesses, IsTokenLocation};
+ghost use Rattle.locations.specs.SourceLocations.{location_of, byte_of, is_always, is_process, plain_process, process_in, AreProcesses, IsTokenLocation};
 ghost use Rattle.locations.specs.Spots.{IsUncut};
 
 use crate::lines::{columns, last_line, newlines};
@@ -20,11 +20,12 @@ pub struct Location {
     pub byte: usize,
 }
 
-/// A process of a source: whether it begins with `always` or with `initial`, and where that word stands.
-#[derive(Clone, Copy)]
+/// A process: whether it begins with `always` or with `initial`, and where that word stands, in words: `line 17` in a source, and
+/// `fifo.v:17 in tb.dut` in a whole design.
+#[derive(Drop)]
 pub struct ProcessLocation {
     pub always: bool,
-    pub location: Location,
+    pub at: String,
 }
 
 /// The bytes before this one; all where there are no more.
@@ -100,18 +101,27 @@ fn is_always(kind: Kind) -> bool
     }
 }
 
+/// Where the line of a number stands, in words. Fails where memory is refused.
+fn line_words(alloc: Global, line: usize) -> Result<String, AllocError>
+    ensures { IfOk result (λ words. string_bytes words ≡ codes "line " ++ decimal line) }
+{
+    format!(in alloc; "line {line}")
+}
+
 /// Adds the process that a token begins to those found, where it begins one. Fails where memory is refused.
 fn add_process(
+    alloc: Global,
     found: &mut Vec<ProcessLocation>,
     source: &[u8],
     spot: &Spot<'_>,
 ) -> Result<(), AllocError>
-    ensures { OnOk result (found.new.items ≡ found.old.items ++ process_in source.now (plain_spot spot.now)) }
+    ensures { OnOk result (map plain_process found.new.items ≡ map plain_process found.old.items ++ process_in source.now (plain_spot spot.now)) }
 {
     if is_process(spot.token.kind) {
+        let at = line_words(alloc, location_of_byte(source, spot.byte).line)?;
         found.push(ProcessLocation {
             always: is_always(spot.token.kind),
-            location: location_of_byte(source, spot.byte),
+            at,
         })?;
     }
     Ok(())
@@ -133,7 +143,7 @@ pub fn processes(alloc: Global, source: &[u8]) -> Result<Vec<ProcessLocation>, C
     let mut found = Vec::new(alloc);
     let mut left = spots.as_slice();
     while let [spot, rest @ ..] = left {
-        add_process(&mut found, source, spot)?;
+        add_process(alloc, &mut found, source, spot)?;
         left = rest;
     }
     Ok(found)

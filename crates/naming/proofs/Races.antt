@@ -17,6 +17,7 @@ use Rattle.runs.specs.declared.run.RunRecord.{RunRecord}
 use Rattle.conflicts.specs.declared.bounds.RaceBounds.{RaceBounds}
 use Rattle.verdict.specs.declared.race.RaceDescription.{RaceDescription}
 use Rattle.verdict.specs.RaceLines.{race_text, unnamed_text}
+use Rattle.locations.specs.declared.location.ProcessLocation.{ProcessLocation}
 use Rattle.naming.specs.SourcePlaces.{ArePlacesOf}
 use Rattle.naming.specs.declared.places.SourcePlaces.{SourcePlaces}
 use Rattle.naming.specs.LineOrders.{orders_text}
@@ -152,14 +153,14 @@ orders_told places code shown prefix races old mid next before after none some a
     at ∙ ap (λ (os : List LineOrder). mid ++ orders_text places.processes.now prefix os) (some.orders_is ∙ ap (λ (l : List LineOrder). l ++ some.kept) none)
 
 -- the lines on races that part texts, on each race of a first run, and then by what their list was cut
-pub tells_behind : {A E : Type 0} (r : Result A E) (source : List ℕ) (places : SourcePlaces) (code : Compiled) (shown : List (Shown Entry End)) (prefix : Option (List ℕ)) (race_bounds : RaceBounds) (found : Found) (causes : List PartingRace) (old mid next new : List ℕ) (before after : ToldSoFar)
-    → ArePlacesOf source places → before.number ≡ 0 + 1 → before.orders.items ≡ [] → TellsSome places code shown prefix (all_races causes found) old mid before after
-    → next ≡ mid ++ orders_text places.processes.now prefix after.orders.items → OnOk r (new ≡ next ++ list_end_text race_bounds found.cut) → OnOk r (TellsBehind source code shown prefix race_bounds found causes old new)
-tells_behind (Ok x) source places code shown prefix race_bounds found causes old mid next new before after of_source first none some orders at = record {
+pub tells_behind : {A E : Type 0} (r : Result A E) (processes : List ProcessLocation) (source : List ℕ) (places : SourcePlaces) (code : Compiled) (shown : List (Shown Entry End)) (prefix : Option (List ℕ)) (race_bounds : RaceBounds) (found : Found) (causes : List PartingRace) (old mid next new : List ℕ) (before after : ToldSoFar)
+    → ArePlacesOf processes source places → before.number ≡ 0 + 1 → before.orders.items ≡ [] → TellsSome places code shown prefix (all_races causes found) old mid before after
+    → next ≡ mid ++ orders_text places.processes.now prefix after.orders.items → OnOk r (new ≡ next ++ list_end_text race_bounds found.cut) → OnOk r (TellsBehind processes source code shown prefix race_bounds found causes old new)
+tells_behind (Ok x) processes source places code shown prefix race_bounds found causes old mid next new before after are first none some orders at = record {
   lines = races_text some.told ++ (orders_text places.processes.now prefix some.kept ++ list_end_text race_bounds found.cut);
   tells = record {
     places = places;
-    of_source = of_source;
+    are_places = are;
     told = some.told;
     are_told = subst (λ n. AreEachTold (IsCauseTold places code shown prefix) n (numbered_causes (all_races causes found)) some.told) first some.are_told;
     kept = some.kept;
@@ -169,18 +170,18 @@ tells_behind (Ok x) source places code shown prefix race_bounds found causes old
   new_is = three old (races_text some.told) (orders_text places.processes.now prefix some.kept) (list_end_text race_bounds found.cut) mid next new some.new_is
       (orders_told places code shown prefix (all_races causes found) old mid next before after none some orders) at;
 }
-tells_behind (Err x) source places code shown prefix race_bounds found causes old mid next new before after of_source first none some orders at = tt
+tells_behind (Err x) processes source places code shown prefix race_bounds found causes old mid next new before after are first none some orders at = tt
 
 four : (old a b c d mid next last new : List ℕ) → mid ≡ old ++ a → next ≡ mid ++ b → last ≡ next ++ c → new ≡ last ++ d → new ≡ old ++ (a ++ (b ++ (c ++ d)))
 four old a b c d mid next last new one other third end =
     three old a b (c ++ d) mid next new one other (end ∙ (ap (λ l. l ++ d) third ∙ append_assoc next c d))
 
 -- the lines on further races that part texts, on texts for which none was found, by what their list was cut, whether the texts differ only in the order of lines, and on registers that differ
-pub tells_more_behind : {A E : Type 0} (r : Result A E) (source : List ℕ) (places : SourcePlaces) (code : Compiled) (shown : List (Shown Entry End)) (prefix : Option (List ℕ)) (race_bounds : RaceBounds) (found : Found) (early : ℕ) (causes : Causes) (old mid next last end said new : List ℕ) (before after : ToldSoFar)
-    → ArePlacesOf source places → before.number ≡ numbered_before found early causes.causes.items + 1 → before.orders.items ≡ [] → TellsSome places code shown prefix (drop early causes.causes.items) old mid before after
+pub tells_more_behind : {A E : Type 0} (r : Result A E) (processes : List ProcessLocation) (source : List ℕ) (places : SourcePlaces) (code : Compiled) (shown : List (Shown Entry End)) (prefix : Option (List ℕ)) (race_bounds : RaceBounds) (found : Found) (early : ℕ) (causes : Causes) (old mid next last end said new : List ℕ) (before after : ToldSoFar)
+    → ArePlacesOf processes source places → before.number ≡ numbered_before found early causes.causes.items + 1 → before.orders.items ≡ [] → TellsSome places code shown prefix (drop early causes.causes.items) old mid before after
     → next ≡ mid ++ orders_text places.processes.now prefix after.orders.items → last ≡ next ++ unnamed_lines causes.unnamed.items → end ≡ last ++ list_end_text race_bounds causes.cut
-    → TellsAlone code shown end said → OnOk r (new ≡ said ++ unseen_text code places.processes.now (length shown) found.unseen) → OnOk r (TellsMoreBehind source code shown prefix race_bounds found early causes old new)
-tells_more_behind (Ok x) source places code shown prefix race_bounds found early causes old mid next last end said new before after of_source first none some orders unnamed cut alone seen =
+    → TellsAlone code shown end said → OnOk r (new ≡ said ++ unseen_text code places.processes.now (length shown) found.unseen) → OnOk r (TellsMoreBehind processes source code shown prefix race_bounds found early causes old new)
+tells_more_behind (Ok x) processes source places code shown prefix race_bounds found early causes old mid next last end said new before after are first none some orders unnamed cut alone seen =
     let ended : List ℕ = list_end_text race_bounds causes.cut in
     let words : List ℕ = order_alone_text alone.alone in
     let names : List ℕ = unseen_text code places.processes.now (length shown) found.unseen in
@@ -188,7 +189,7 @@ tells_more_behind (Ok x) source places code shown prefix race_bounds found early
       lines = races_text some.told ++ (orders_text places.processes.now prefix some.kept ++ (unnamed_lines causes.unnamed.items ++ (ended ++ (words ++ names))));
       tells = record {
         places = places;
-        of_source = of_source;
+        are_places = are;
         told = some.told;
         are_told = subst (λ n. AreEachTold (IsCauseTold places code shown prefix) n (numbered_causes (drop early causes.causes.items)) some.told) first some.are_told;
         kept = some.kept;
@@ -201,4 +202,4 @@ tells_more_behind (Ok x) source places code shown prefix race_bounds found early
           (orders_told places code shown prefix (drop early causes.causes.items) old mid next before after none some orders) unnamed
           (three last ended words names end said new cut alone.new_is seen);
     }
-tells_more_behind (Err x) source places code shown prefix race_bounds found early causes old mid next last end said new before after of_source first none some orders unnamed cut alone seen = tt
+tells_more_behind (Err x) processes source places code shown prefix race_bounds found early causes old mid next last end said new before after are first none some orders unnamed cut alone seen = tt

@@ -1,9 +1,8 @@
 -- Races for the order of lines, told in one line for each time.
-use Rattle.std.specs.Prelude.{ℕ, Bool, ◌==◌, List, [], ◌∷◌, ◌++◌, Option, if◌then◌else◌, map, option_map, slice_get}
+use Rattle.std.specs.Prelude.{ℕ, Bool, ◌==◌, List, [], ◌∷◌, ◌++◌, Option, if◌then◌else◌, map, option_map, slice_get, string_bytes}
 use Rattle.std.specs.List.{filter, flat_map, fold, list_any}
 use Rattle.locations.specs.declared.location.ProcessLocation.{ProcessLocation}
-use Rattle.verdict.specs.declared.order.PrinterDescription.{PrinterDescription}
-use Rattle.verdict.specs.OrderLines.{line_order_text}
+use Rattle.verdict.specs.OrderLines.{PlainPrinter, line_order_text}
 use Rattle.naming.specs.declared.line_orders.LineOrder.{LineOrder}
 
 -- a list with one more, unless one like it is there
@@ -38,16 +37,16 @@ numbers_at time orders = each_once is_number (flat_map both_processes (filter (i
 abbrev pub with_either : List ℕ → LineOrder → ℕ → List ℕ
 with_either numbers order time = if order.time == time then with_one is_number (with_one is_number numbers order.first) order.second else numbers
 
--- the line in which the process with a number begins, if that is known
-abbrev pub begin_line_of : List ProcessLocation → ℕ → Option ℕ
-begin_line_of processes number = option_map (λ process. process.location.line) (slice_get processes number)
+-- where the process with a number begins, in words, if that is known
+abbrev pub beginning_of : List ProcessLocation → ℕ → Option (List ℕ)
+beginning_of processes number = option_map (λ process. string_bytes process.at) (slice_get processes number)
 
 -- a process, as it is told
-abbrev pub printer_of : List ProcessLocation → ℕ → PrinterDescription
-printer_of processes number = record { number = number; line = begin_line_of processes number }
+abbrev pub printer_of : List ProcessLocation → ℕ → PlainPrinter
+printer_of processes number = record { number = number; at = beginning_of processes number }
 
 -- the processes of the races at a time, as they are told
-abbrev pub printers_at : List ProcessLocation → ℕ → List LineOrder → List PrinterDescription
+abbrev pub printers_at : List ProcessLocation → ℕ → List LineOrder → List PlainPrinter
 printers_at processes time orders = map (printer_of processes) (numbers_at time orders)
 
 -- the line on the time of one of the races, with the journal of that one

@@ -1,5 +1,5 @@
 -- Races that are told in lines.
-use Rattle.std.specs.Prelude.{◌≡◌, ℕ, ◌+◌, Bool, IsTrue, not, List, [], ◌∷◌, ◌++◌, drop, length, map, take, Option, Some, None, IfSome, slice_get, string_bytes}
+use Rattle.std.specs.Prelude.{◌≡◌, ℕ, ◌+◌, Bool, IsTrue, not, List, [], ◌∷◌, ◌++◌, drop, length, map, take, Option, Some, None, IfSome, option_map, slice_get, string_bytes}
 use Rattle.std.specs.List.{All, filter}
 use Rattle.model.specs.declared.entry.Entry.{Entry}
 use Rattle.model.specs.declared.end.End.{End}
@@ -25,7 +25,8 @@ use Rattle.verdict.specs.declared.race.RunDescription.{RunDescription}
 use Rattle.verdict.specs.declared.race.SiteDescription.{SiteDescription}
 use Rattle.verdict.specs.RaceLines.{prefix_of, race_text, unnamed_text}
 use Rattle.verdict.specs.CutLines.{cut_text}
-use Rattle.naming.specs.Begins.{begin_of}
+use Rattle.locations.specs.declared.location.ProcessLocation.{ProcessLocation}
+use Rattle.naming.specs.Begins.{begin_of, plain_begin}
 use Rattle.naming.specs.SourcePlaces.{ArePlacesOf}
 use Rattle.naming.specs.declared.places.SourcePlaces.{SourcePlaces}
 use Rattle.naming.specs.declared.naming.RaceWords.{RaceWords}
@@ -41,7 +42,7 @@ use Rattle.naming.specs.RoleWords.{role_words}
 -- has a node that does so, or else those between which all stand, where they are known.
 pub record IsRoleTold (places : SourcePlaces) (code : Compiled) (raced : Site) (site : SiteDescription) (role : found_role.Role) (told : RoleDescription) : Type 0 where
   pub number : told.number ≡ role.process
-  pub begin : told.begins ≡ begin_of places.processes.now role.process
+  pub begin : option_map plain_begin told.begins ≡ begin_of places.processes.now role.process
   pub found : Option RunStatements
   pub found_so : IfSome found (AreStatementsOfRole code raced role)
   pub does : told.does.now ≡ role_words places site role found
@@ -165,13 +166,13 @@ pub record TellsSome (places : SourcePlaces) (code : Compiled) (shown : List (Sh
   pub are_kept : AreOrdersOf shown (line_orders races) kept
   pub orders_is : after.orders.items ≡ before.orders.items ++ kept
 
--- What was found in the design of a source is told in these lines: races that part texts, and behind them those of a first run, each process by where it begins and by the lines
--- between which it does what it is told for, where these are known.
+-- What was found in a design is told in these lines: races that part texts, and behind them those of a first run, each process by where it begins, and by the lines
+-- of the source between which it does what it is told for, where these are known.
 -- Those that aren't for the order of lines come first, one after another, with numbers, and then one line for each time of the others. Behind them stands by what the
 -- list of the first run's was cut, if it was.
-pub record TellsRaces (source : List ℕ) (code : Compiled) (shown : List (Shown Entry End)) (prefix : Option (List ℕ)) (race_bounds : RaceBounds) (found : Found) (causes : List PartingRace) (lines : List ℕ) : Type 0 where
+pub record TellsRaces (processes : List ProcessLocation) (source : List ℕ) (code : Compiled) (shown : List (Shown Entry End)) (prefix : Option (List ℕ)) (race_bounds : RaceBounds) (found : Found) (causes : List PartingRace) (lines : List ℕ) : Type 0 where
   pub places : SourcePlaces
-  pub of_source : ArePlacesOf source places
+  pub are_places : ArePlacesOf processes source places
   pub told : List RaceDescription
   pub are_told : AreEachTold (IsCauseTold places code shown prefix) 1 (numbered_causes (all_races causes found)) told
   pub kept : List LineOrder
@@ -179,9 +180,9 @@ pub record TellsRaces (source : List ℕ) (code : Compiled) (shown : List (Shown
   pub lines_is : lines ≡ races_text told ++ (orders_text places.processes.now prefix kept ++ list_end_text race_bounds found.cut)
 
 -- a text has grown by lines that tell what was found
-pub record TellsBehind (source : List ℕ) (code : Compiled) (shown : List (Shown Entry End)) (prefix : Option (List ℕ)) (race_bounds : RaceBounds) (found : Found) (causes : List PartingRace) (old new : List ℕ) : Type 0 where
+pub record TellsBehind (processes : List ProcessLocation) (source : List ℕ) (code : Compiled) (shown : List (Shown Entry End)) (prefix : Option (List ℕ)) (race_bounds : RaceBounds) (found : Found) (causes : List PartingRace) (old new : List ℕ) : Type 0 where
   pub lines : List ℕ
-  pub tells : TellsRaces source code shown prefix race_bounds found causes lines
+  pub tells : TellsRaces processes source code shown prefix race_bounds found causes lines
   pub new_is : new ≡ old ++ lines
 
 -- how many have a number of the races of a first run, and of so many that part texts
@@ -198,9 +199,9 @@ pub record TellsAlone (code : Compiled) (shown : List (Shown Entry End)) (old ne
 -- then one line for each time of those for the order of lines, for which texts none was found, and by what their list was cut. The next line says that the texts differ only
 -- in the order of lines at one time, where it stands, and then they do. The last one stands where one text is told, and names registers that differ in two runs which print it, and two
 -- processes whose order does that, where they are known.
-pub record TellsMore (source : List ℕ) (code : Compiled) (shown : List (Shown Entry End)) (prefix : Option (List ℕ)) (race_bounds : RaceBounds) (found : Found) (before : ℕ) (causes : Causes) (lines : List ℕ) : Type 0 where
+pub record TellsMore (processes : List ProcessLocation) (source : List ℕ) (code : Compiled) (shown : List (Shown Entry End)) (prefix : Option (List ℕ)) (race_bounds : RaceBounds) (found : Found) (before : ℕ) (causes : Causes) (lines : List ℕ) : Type 0 where
   pub places : SourcePlaces
-  pub of_source : ArePlacesOf source places
+  pub are_places : ArePlacesOf processes source places
   pub told : List RaceDescription
   pub are_told : AreEachTold (IsCauseTold places code shown prefix) (numbered_before found before causes.causes.items + 1) (numbered_causes (drop before causes.causes.items)) told
   pub kept : List LineOrder
@@ -210,7 +211,7 @@ pub record TellsMore (source : List ℕ) (code : Compiled) (shown : List (Shown 
   pub lines_is : lines ≡ races_text told ++ (orders_text places.processes.now prefix kept ++ (unnamed_lines causes.unnamed.items ++ (list_end_text race_bounds causes.cut ++ (order_alone_text alone ++ unseen_text code places.processes.now (length shown) found.unseen))))
 
 -- a text has grown by such lines
-pub record TellsMoreBehind (source : List ℕ) (code : Compiled) (shown : List (Shown Entry End)) (prefix : Option (List ℕ)) (race_bounds : RaceBounds) (found : Found) (before : ℕ) (causes : Causes) (old new : List ℕ) : Type 0 where
+pub record TellsMoreBehind (processes : List ProcessLocation) (source : List ℕ) (code : Compiled) (shown : List (Shown Entry End)) (prefix : Option (List ℕ)) (race_bounds : RaceBounds) (found : Found) (before : ℕ) (causes : Causes) (old new : List ℕ) : Type 0 where
   pub lines : List ℕ
-  pub tells : TellsMore source code shown prefix race_bounds found before causes lines
+  pub tells : TellsMore processes source code shown prefix race_bounds found before causes lines
   pub new_is : new ≡ old ++ lines

@@ -1,7 +1,8 @@
 //! Races for the order of lines, told in one line for each time.
 ghost use Rattle.std.specs.Prelude.{◌≡◌, ◌++◌, IfOk, OnOk, map, option_map};
+ghost use Rattle.verdict.specs.OrderLines.{plain_printer};
 ghost use Rattle.std.specs.List.{list_any};
-ghost use Rattle.naming.specs.LineOrders.{begin_line_of, each_once, is_number, is_of_time, numbers_at, of_time, order_line, orders_text, printer_of, printers_at, with_either, with_one};
+ghost use Rattle.naming.specs.LineOrders.{beginning_of, each_once, is_number, is_of_time, numbers_at, of_time, order_line, orders_text, printer_of, printers_at, with_either, with_one};
 
 use locations::ProcessLocation;
 use std::alloc::{AllocError, Global};
@@ -132,33 +133,33 @@ fn numbers_at(alloc: Global, orders: &[LineOrder], time: u64) -> Result<Vec<u32>
     Ok(numbers)
 }
 
-/// The line in which the process with a number begins, if that is known.
-fn line_of(processes: &[ProcessLocation], number: u32) -> Option<usize>
-    ensures { result ≡ begin_line_of processes.now number }
+/// Where the process with a number begins, in words, if that is known.
+fn beginning_of(processes: &[ProcessLocation], number: u32) -> Option<&str>
+    ensures { option_map (λ words. words.now) result ≡ beginning_of processes.entry.now number }
 {
     match processes.get(number as usize) {
-        Some(process) => Some(process.location.line),
+        Some(process) => Some(process.at.as_str()),
         None => None,
     }
 }
 
 /// A process, as it is told.
-pub(crate) fn printer_of(processes: &[ProcessLocation], number: u32) -> PrinterDescription
-    ensures { result ≡ printer_of processes.now number }
+pub(crate) fn printer_of(processes: &[ProcessLocation], number: u32) -> PrinterDescription<'_>
+    ensures { plain_printer result ≡ printer_of processes.entry.now number }
 {
     PrinterDescription {
         number,
-        line: line_of(processes, number),
+        at: beginning_of(processes, number),
     }
 }
 
 /// Processes with these numbers, as they are told.
-pub(crate) fn printers_of(
+pub(crate) fn printers_of<'p>(
     alloc: Global,
-    processes: &[ProcessLocation],
+    processes: &'p [ProcessLocation],
     numbers: &[u32],
-) -> Result<Vec<PrinterDescription>, AllocError>
-    ensures { IfOk result (λ printers. printers.items ≡ map (printer_of processes.now) numbers.now) }
+) -> Result<Vec<PrinterDescription<'p>>, AllocError>
+    ensures { IfOk result (λ printers. map plain_printer printers.items ≡ map (printer_of processes.entry.now) numbers.now) }
 {
     let mut printers = Vec::new(alloc);
     for place in 0..numbers.len() {
@@ -168,13 +169,13 @@ pub(crate) fn printers_of(
 }
 
 /// The processes of the races at a time, as they are told.
-fn printers_at(
+fn printers_at<'p>(
     alloc: Global,
-    processes: &[ProcessLocation],
+    processes: &'p [ProcessLocation],
     orders: &[LineOrder],
     time: u64,
-) -> Result<Vec<PrinterDescription>, AllocError>
-    ensures { IfOk result (λ printers. printers.items ≡ printers_at processes.now time orders.now) }
+) -> Result<Vec<PrinterDescription<'p>>, AllocError>
+    ensures { IfOk result (λ printers. map plain_printer printers.items ≡ printers_at processes.entry.now time orders.now) }
 {
     let numbers = numbers_at(alloc, orders, time)?;
     let printers = printers_of(alloc, processes, numbers.as_slice())?;

@@ -1,7 +1,7 @@
 //! Races that were found, told in lines.
 ghost use Rattle.std.specs.Prelude.{◌≡◌, ◌↔◌, ◌≤◌, ◌<◌, ◌+◌, ◌++◌, ◌∷◌, [], length, map, IfOk, IfSome, IsTrue, OnOk, option_map, string_bytes};
 ghost use Rattle.executed.specs.RunNumbers.{AreStatementsOfRole};
-ghost use Rattle.naming.specs.Begins.{AreProcessesOf, begin_of};
+ghost use Rattle.naming.specs.Begins.{begin_of, plain_begin};
 ghost use Rattle.naming.specs.LineOrders.{orders_text};
 ghost use Rattle.naming.specs.Naming.{AddsOrder, AreWordsOf, HasJournal, IsDifferenceTold, IsJournalTold, IsOrderOf, IsRaceTold, TellsBehind, TellsMoreBehind, TellsAlone, TellsNumbered, TellsSome, list_end_text, numbered_races, parting_of, unnamed_lines};
 
@@ -17,7 +17,7 @@ use conflicts::{Bound, RaceBounds};
 use design::Design;
 use executed::{RunStatements, StatementSearch, statements_run};
 use explore::Shown;
-use locations::processes;
+use locations::ProcessLocation;
 use model::end::End;
 use model::entry::Entry;
 use races::{Found, Race, is_line_order, numbers_of};
@@ -28,10 +28,11 @@ use verdict::{
     first_difference, push_cut, push_race, push_unnamed,
 };
 
-/// What races are named by: the source, its design, the bounds within which they were looked for, and the texts that are known, of which
-/// the journals are saved at paths that begin with a prefix, where one is given.
+/// What races are named by: a design, its processes as people call them, the source in which lines are told of what these do (an empty one, where none are to be told),
+/// the bounds within which races were looked for, and the texts that are known, of which the journals are saved at paths that begin with a prefix, where one is given.
 #[derive(Clone, Copy)]
 pub struct RaceNames<'a> {
+    pub processes: &'a [ProcessLocation],
     pub source: &'a [u8],
     pub design: &'a Design,
     pub race_bounds: RaceBounds,
@@ -71,17 +72,15 @@ pub fn push_races<'a>(
     found: &'a Found,
     causes: &'a [PartingRace],
 ) -> Result<(), AllocError>
-    ensures { OnOk result (TellsBehind names.entry.now.source.now names.entry.now.design.now names.entry.now.shown.now (option_map (λ path. path.now) names.entry.now.prefix) names.entry.now.race_bounds found.entry.now causes.entry.now text.old.items text.new.items) }
+    ensures { OnOk result (TellsBehind names.entry.now.processes.now names.entry.now.source.now names.entry.now.design.now names.entry.now.shown.now (option_map (λ path. path.now) names.entry.now.prefix) names.entry.now.race_bounds found.entry.now causes.entry.now text.old.items text.new.items) }
 {
-    let processes = processes_of(alloc, names.source)?;
     let statements = statements_of(alloc, names.source)?;
-    let begins = processes.as_slice();
     let tokens = statements.as_slice();
-    let places = places_with(alloc, names.source, begins, tokens);
+    let places = places_with(alloc, names.processes, names.source, tokens);
     let mut told = told_before(alloc, 0);
-    push_parting(text, &mut told, names, &places, causes)?;
-    push_each(text, &mut told, names, &places, found)?;
-    push_kept(text, &told, names, &places)?;
+    push_parting(text, &mut told, &*names, &places, &*causes)?;
+    push_each(text, &mut told, &*names, &places, &*found)?;
+    push_kept(text, &told, &*names, &places)?;
     push_end(text, names.race_bounds, found.cut)
 }
 
@@ -108,18 +107,16 @@ pub fn push_more_races<'a>(
     causes: &'a Causes,
 ) -> Result<(), AllocError>
     requires { before ≤ length causes.now.causes.items }
-    ensures { OnOk result (TellsMoreBehind names.entry.now.source.now names.entry.now.design.now names.entry.now.shown.now (option_map (λ path. path.now) names.entry.now.prefix) names.entry.now.race_bounds found.now before causes.entry.now text.old.items text.new.items) }
+    ensures { OnOk result (TellsMoreBehind names.entry.now.processes.now names.entry.now.source.now names.entry.now.design.now names.entry.now.shown.now (option_map (λ path. path.now) names.entry.now.prefix) names.entry.now.race_bounds found.now before causes.entry.now text.old.items text.new.items) }
 {
-    let processes = processes_of(alloc, names.source)?;
     let statements = statements_of(alloc, names.source)?;
-    let begins = processes.as_slice();
     let tokens = statements.as_slice();
-    let places = places_with(alloc, names.source, begins, tokens);
+    let places = places_with(alloc, names.processes, names.source, tokens);
     let (early, more) = causes.causes.as_slice().split_at(before);
     let numbered = numbered_found(found.races.as_slice()) + numbered_count(early);
     let mut told = told_before(alloc, numbered);
-    push_parting(text, &mut told, names, &places, more)?;
-    push_kept(text, &told, names, &places)?;
+    push_parting(text, &mut told, &*names, &places, more)?;
+    push_kept(text, &told, &*names, &places)?;
     push_unnamed_texts(text, causes.unnamed.as_slice())?;
     push_end(text, names.race_bounds, causes.cut)?;
     push_alone(alloc, text, names.design, names.shown)?;
@@ -177,7 +174,7 @@ fn push_parting<'a>(
     text: &mut Vec<u8>,
     told: &mut ToldSoFar,
     names: &RaceNames<'a>,
-    places: &SourcePlaces<'_>,
+    places: &SourcePlaces<'a>,
     causes: &'a [PartingRace],
 ) -> Result<(), AllocError>
     requires { told.old.number + length causes.now ≤ 18446744073709551615 }
@@ -198,7 +195,7 @@ impl ToldSoFar {
         &mut self,
         text: &mut Vec<u8>,
         names: &RaceNames<'a>,
-        places: &SourcePlaces<'_>,
+        places: &SourcePlaces<'a>,
         original: &'a RunRecord,
         race: &'a Race,
     ) -> Result<(), AllocError>
@@ -240,7 +237,7 @@ fn order_of(shown: &[Shown<Entry, End>], race: &Race) -> LineOrder
 fn push_numbered<'a>(
     text: &mut Vec<u8>,
     names: &RaceNames<'a>,
-    places: &SourcePlaces<'_>,
+    places: &SourcePlaces<'a>,
     original: &'a RunRecord,
     race: &'a Race,
     number: usize,
@@ -341,25 +338,12 @@ fn push_end(
     }
 }
 
-/// The processes of a source; none where it isn't cut into tokens.
-pub(crate) fn processes_of(
-    alloc: Global,
-    source: &[u8],
-) -> Result<Vec<locations::ProcessLocation>, AllocError>
-    ensures { IfOk result (λ found. AreProcessesOf source.now found.items) }
-{
-    match processes(alloc, source) {
-        Ok(found) => Ok(found),
-        Err(fault) => none_uncut(alloc, fault),
-    }
-}
-
 /// Puts the lines on each race of a first run behind a text, with the next numbers, and keeps those for the order of lines. Fails where memory is refused.
 fn push_each<'a>(
     text: &mut Vec<u8>,
     told: &mut ToldSoFar,
     names: &RaceNames<'a>,
-    places: &SourcePlaces<'_>,
+    places: &SourcePlaces<'a>,
     found: &'a Found,
 ) -> Result<(), AllocError>
     requires { told.old.number ≤ 9223372036854775808 }
@@ -375,14 +359,14 @@ fn push_each<'a>(
 /// A race, as it is told in these words.
 fn told_race<'a>(
     names: &RaceNames<'a>,
-    places: &SourcePlaces<'_>,
+    places: &SourcePlaces<'a>,
     original: &'a RunRecord,
     race: &'a Race,
     number: usize,
     words: RaceWords<'a>,
 ) -> RaceDescription<'a>
     requires { AreWordsOf places.now names.now.design.now race.now words }
-    ensures { IsRaceTold places.now names.entry.now.design.now names.entry.now.shown.now (option_map (λ path. path.now) names.entry.now.prefix) original.entry.now number race.entry.now result }
+    ensures { IsRaceTold places.entry.now names.entry.now.design.now names.entry.now.shown.now (option_map (λ path. path.now) names.entry.now.prefix) original.entry.now number race.entry.now result }
 {
     let lines = lines_of(original, &race.exchanged);
     RaceDescription {
@@ -427,12 +411,12 @@ fn lines_of<'a>(one: &'a RunRecord, other: &'a RunRecord) -> Lines<'a>
 
 /// A role as it is told: of which process, where that begins, if that is known, and what it does, in these words.
 fn role_of<'a>(
-    places: &SourcePlaces<'_>,
+    places: &SourcePlaces<'a>,
     role: accesses::Role,
     does: &'a str,
 ) -> RoleDescription<'a>
     ensures number { result.number ≡ role.process }
-    ensures begin { result.begins ≡ begin_of places.now.processes.now role.process }
+    ensures begin { option_map plain_begin result.begins ≡ begin_of places.entry.now.processes.now role.process }
     ensures does { result.does.now ≡ does.entry.now }
 {
     RoleDescription {
@@ -443,13 +427,13 @@ fn role_of<'a>(
 }
 
 /// Where the process with a number begins, if that is known.
-fn begin_of(processes: &[locations::ProcessLocation], number: u32) -> Option<ProcessDescription>
-    ensures { result ≡ begin_of processes.now number }
+fn begin_of(processes: &[ProcessLocation], number: u32) -> Option<ProcessDescription<'_>>
+    ensures { option_map plain_begin result ≡ begin_of processes.entry.now number }
 {
     match processes.get(number as usize) {
         Some(process) => Some(ProcessDescription {
             always: process.always,
-            line: process.location.line,
+            at: process.at.as_str(),
         }),
         None => None,
     }

@@ -2,7 +2,6 @@
 ghost use Rattle.std.specs.Prelude.{◌≡◌, ◌≢◌, [], IfOk, map};
 ghost use Rattle.tokens.specs.declared.cut.CutFault.TheVariants as faults;
 ghost use Rattle.statements.specs.PlainStatementTokens.{plain_statement_token};
-ghost use Rattle.naming.specs.Begins.{AreProcessesOf};
 ghost use Rattle.naming.specs.SourcePlaces.{ArePlacesOf, AreStatementsOf};
 
 use locations::ProcessLocation;
@@ -10,7 +9,7 @@ use statements::{StatementToken, statement_tokens};
 use std::alloc::{AllocError, Global};
 use tokens::cut::CutFault;
 
-/// The places of a source: its processes, and its tokens that do something in a statement.
+/// Where processes stand, as people call them, and the tokens of a source that do something in a statement.
 #[derive(Clone, Copy)]
 pub(crate) struct SourcePlaces<'a> {
     pub(crate) alloc: Global,
@@ -19,16 +18,15 @@ pub(crate) struct SourcePlaces<'a> {
     pub(crate) statements: &'a [StatementToken<'a>],
 }
 
-/// The places of a source, by its processes and its tokens that do something.
+/// Where processes stand, and the places of a source, by its tokens that do something.
 pub(crate) fn places_with<'a>(
     alloc: Global,
-    source: &'a [u8],
     processes: &'a [ProcessLocation],
+    source: &'a [u8],
     statements: &'a [StatementToken<'a>],
 ) -> SourcePlaces<'a>
-    requires processes { AreProcessesOf source.now processes.now }
-    requires statements { AreStatementsOf source.now (map plain_statement_token statements.now) }
-    ensures { ArePlacesOf source.entry.now result }
+    requires { AreStatementsOf source.now (map plain_statement_token statements.now) }
+    ensures { ArePlacesOf processes.entry.now source.entry.now result }
 {
     SourcePlaces {
         alloc,

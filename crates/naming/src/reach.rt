@@ -3,7 +3,6 @@ ghost use Rattle.std.specs.Prelude.{◌≡◌, ◌++◌, OnOk, Some};
 ghost use Rattle.naming.specs.SearchReach.{TellsReach, choice_line};
 
 use crate::line_orders::printers_of;
-use crate::naming::processes_of;
 use accesses::lead;
 use design::Design;
 use locations::ProcessLocation;
@@ -106,20 +105,19 @@ fn push_choice(
     }
 }
 
-/// Puts the lines on how far a search of the design of a source came that met a limit behind a text: before which time all orders were
+/// Puts the lines on how far a search of a design came that met a limit behind a text, with its processes as people call them: before which time all orders were
 /// followed, and where most choices are. Fails where memory is refused.
 pub fn push_reach(
     alloc: Global,
     text: &mut Vec<u8>,
-    source: &[u8],
+    processes: &[ProcessLocation],
     design: &Design,
     reach: SearchReach<'_>,
 ) -> Result<(), AllocError>
-    ensures { OnOk result (TellsReach source.now reach.entry.followed_before text.old.items text.new.items) }
+    ensures { OnOk result (TellsReach processes.now reach.entry.followed_before text.old.items text.new.items) }
 {
-    let processes = processes_of(alloc, source)?;
     let choice = choice_of(alloc, design, reach.widest)?;
     push_followed(text, reach.followed_before)?;
-    push_choice(alloc, text, processes.as_slice(), &choice)?;
+    push_choice(alloc, text, processes, &choice)?;
     Ok(())
 }

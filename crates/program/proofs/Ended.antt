@@ -1,6 +1,8 @@
 -- What the requests of the words, the files and the statuses tell of a command that ended.
-use Rattle.std.proofs.Common.{◌≡◌, ◌≢◌, ◌⊎◌, Bool, true, false, string_bytes, ◌++◌, ◌∙◌, ap, append_assoc, sym, subst, inl, inr, refl, ℕ, List, Option, Some, None, IfOk, IfErr, OnOk, OnErr, Result, Ok, Err, option_map, codes, drop, arith}
+use Rattle.std.proofs.Common.{◌≡◌, ◌≢◌, ◌⊎◌, Bool, true, false, string_bytes, ◌++◌, ◌∙◌, ap, append_assoc, sym, subst, inl, inr, refl, ℕ, List, [], ◌∷◌, Option, Some, None, IfOk, IfErr, OnOk, OnErr, Result, Ok, Err, option_map, codes, drop, arith}
 use Rattle.std.specs.Io.KnownBytes.{Appends, Keeps}
+use Rattle.std.specs.Str.{bytes_eq}
+use Rattle.std.specs.Prelude.{IsSome}
 use Rattle.model.specs.declared.entry.Entry.{Entry}
 use Rattle.arguments.specs.declared.run_options.RunOptions.{RunOptions}
 use Rattle.clap.specs.Words.{Text, first_of}
@@ -26,15 +28,19 @@ use Rattle.arguments.specs.Options.{CanRun, CanSearch}
 use Rattle.program.specs.declared.ending.Ending.{Ending}
 use Rattle.program.specs.declared.ending.Ending.TheVariants as ending
 use Rattle.program.specs.declared.finding.SearchFinding.TheVariants as finding
-use Rattle.program.specs.Program.{IsNoRequestStatus, compared_ending, ended_status, ending_of, finding_status, help_text, right_text, status_of, stop_of, stop_status, version_text}
-use Rattle.program.specs.Printed.{AsksCheckOf, HasBegun, HasEnded, HasLeft, HasPrintedBy, HasRefused, HasRun, HasSavedSome, HasSearched, HasChecked, HasDumped, HasCompared, HasComparedFiles, HasExplainedPart, HasSearchedBy, HasShown, HasWaves, HaveDiffered, IsDone, IsLeft, IsLeftByRun, IsRight, IsUnprinted, IsWrong, begun, checked, compared, helped, interrupted, ran, searched, untouched, versioned, waves_begun}
-use Rattle.program.specs.Observed.{HasBegunWaves, HasLeftWaves, HasObserved}
+use Rattle.program.specs.Program.{IsNoRequestStatus, compared_ending, ended_status, finding_status, help_text, right_text, status_of, stop_of, stop_status, version_text}
+use Rattle.program.specs.Printed.{AsksCheckOf, HasBegun, HasEnded, HasLeft, HasPrintedBy, HasRefused, HasRefusedDesign, HasRun, HasRunTo, HasSavedSome, HasSearched, HasChecked, HasDumped, HasCompared, HasComparedFiles, HasExplainedPart, HasSearchedBy, HasSearchedTo, HasShown, HasWaves, HaveDiffered, IsDone, IsLeft, IsLeftByRun, IsRight, IsUnprinted, IsWrong, begun, checked, compared, helped, interrupted, ran, searched, untouched, versioned, waves_begun}
+use Rattle.program.specs.Observed.{HasBegunWaves, HasLeftWaves, HasObserved, HasObservedTo}
+use Rattle.program.specs.Subjects.{AreLeft, Sources}
+use Rattle.locations.specs.declared.location.ProcessLocation.{ProcessLocation}
+use Rattle.arguments.specs.VerilogWords.{AskWhole}
+use Rattle.arguments.specs.declared.verilog_words.DesignWords.{DesignWords}
 use Rattle.arguments.specs.Observing.{IsObserved}
 use Rattle.arguments.specs.declared.observed.Observed.TheVariants.{Lines}
-use Rattle.program.specs.StandardError.{HasExplainedTold, HasNamedNoRegister, IsEndTold, IsReported, IsUnfinished, IsWanting, nothing, of_fault, of_name, of_source, of_stop}
+use Rattle.program.specs.StandardError.{HasExplainedTold, HasNamedNoRegister, IsEndTold, IsReported, IsUnfinished, IsWanting, nothing, of_fault, of_name, of_source, of_stop, of_words}
 use Rattle.program.specs.declared.register_option.RegisterOption.{RegisterOption}
 use Rattle.program.specs.declared.register_option.RegisterOption.TheVariants as options
-use Rattle.program.specs.RegisterOptions.{naming_option}
+use Rattle.program.specs.RegisterOptions.{naming_option, word_of_option}
 use Rattle.program.specs.ProgramLines.{no_register_line}
 use Rattle.telling.specs.FaultLines.{Tells}
 use Rattle.program.proofs.Statuses.{not_of_fault, not_of_stop}
@@ -67,17 +73,17 @@ saved_on a b c None entries h k = kept_on a b c h k
 saved_on a b c (Some p) entries h k = added_on a b c _ h k
 
 -- what was printed and saved is what the run left
-pub printed_by : (holding : Option (List ℕ → List ℕ)) (file : List ℕ) (seed : Option ℕ) (options : RunOptions) (path : Option (List ℕ)) (old new : Option (List ℕ)) (files files' : Option (List MadeFile)) (left : LeftByRun) (told : Option Stop)
-    → IsLeftByRun holding file seed options left → Appends old new (string_bytes left.lines) → SavesWhereAsked files files' path left.journal.items → told ≡ stop_of left.end
-    → HasPrintedBy holding file seed options path old new files files' told
-printed_by holding file None options path old new files files' left told made lines saved end = record {
+pub printed_by : (from : Sources) (file : List ℕ) (seed : Option ℕ) (options : RunOptions) (path : Option (List ℕ)) (old new : Option (List ℕ)) (files files' : Option (List MadeFile)) (left : LeftByRun) (told : Option Stop)
+    → IsLeftByRun from file seed options left → Appends old new (string_bytes left.lines) → SavesWhereAsked files files' path left.journal.items → told ≡ stop_of left.end
+    → HasPrintedBy from file seed options path old new files files' told
+printed_by from file None options path old new files files' left told made lines saved end = record {
   closed = made.closed;
   is_run = made.is_run;
   lines = subst (λ (text : List ℕ). Appends old new text) made.lines lines;
   saved = subst (λ (entries : List Entry). SavesWhereAsked files files' path entries) made.journal saved;
   end = end ∙ ap stop_of made.end;
 }
-printed_by holding file (Some seed) options path old new files files' left told made lines saved end = record {
+printed_by from file (Some seed) options path old new files files' left told made lines saved end = record {
   run = made.run;
   is_run = made.is_run;
   lines = subst (λ (text : List ℕ). Appends old new text) made.lines lines;
@@ -93,62 +99,71 @@ all_saved_on (Some fs) b c (Some p) journals h k = subst (λ (o : Option (List M
 
 -- requests
 
-pub run_of_words : (holding : Option (List ℕ → List ℕ)) (words : List Text) (run : RunRequest) (old new : Option (List ℕ)) (files files' : Option (List MadeFile)) (told : Option Stop)
-    → AsksRun words run → HasPrintedBy holding run.file.now run.seed run.options (option_map (λ path. path.now) run.journal) old new files files' told
-    → HasRun holding words old new files files' told
-run_of_words holding words run old new files files' told asks h = record {
+pub run_of_words : (from : Sources) (words : List Text) (run : RunRequest) (old new : Option (List ℕ)) (files files' : Option (List MadeFile)) (told : Option Stop)
+    → AsksRun words run → HasPrintedBy from run.file.now run.seed run.options (option_map (λ path. path.now) run.journal) old new files files' told
+    → HasRun from words old new files files' told
+run_of_words from words run old new files files' told asks h = record {
   begins = asks.begins;
   can_run = subst CanRun asks.is_run.options asks.is_run.in_range;
   file = run.file.now;
   is_file = asks.is_run.file;
-  printed = subst (λ (seed : Option ℕ). HasPrintedBy holding run.file.now seed (options_of (run_rows (drop 1 words))) (first_of (codes "journal") (run_rows (drop 1 words))) old new files files' told) asks.is_run.seed
-      (subst (λ (path : Option (List ℕ)). HasPrintedBy holding run.file.now run.seed (options_of (run_rows (drop 1 words))) path old new files files' told) (sym asks.is_run.journal)
-      (subst (λ (options : RunOptions). HasPrintedBy holding run.file.now run.seed options (option_map (λ path. path.now) run.journal) old new files files' told) asks.is_run.options h));
+  printed = subst (λ (seed : Option ℕ). HasPrintedBy from run.file.now seed (options_of (run_rows (drop 1 words))) (first_of (codes "journal") (run_rows (drop 1 words))) old new files files' told) asks.is_run.seed
+      (subst (λ (path : Option (List ℕ)). HasPrintedBy from run.file.now run.seed (options_of (run_rows (drop 1 words))) path old new files files' told) (sym asks.is_run.journal)
+      (subst (λ (options : RunOptions). HasPrintedBy from run.file.now run.seed options (option_map (λ path. path.now) run.journal) old new files files' told) asks.is_run.options h));
 }
 
-pub search_of_words : (holding : Option (List ℕ → List ℕ)) (words : List Text) (races : RacesRequest) (old new : Option (List ℕ)) (files files' : Option (List MadeFile)) (found : SearchFinding)
-    → AsksRaces words races → races.observed ≡ Lines → HasShown holding races.file.now races.search_options (option_map (λ path. path.now) races.journals) old new files files' found
-    → HasSearched holding words old new files files' found
-search_of_words holding words races old new files files' found asks lines h = inl (record {
+pub search_of_words : (from : Sources) (words : List Text) (races : RacesRequest) (old new : Option (List ℕ)) (files files' : Option (List MadeFile)) (found : SearchFinding)
+    → AsksRaces words races → races.observed ≡ Lines → HasShown from races.file.now races.search_options (option_map (λ path. path.now) races.journals) old new files files' found
+    → HasSearched from words old new files files' found
+search_of_words from words races old new files files' found asks lines h = inl (record {
   begins = asks.begins;
   can_search = subst CanSearch asks.is_races.search_options asks.is_races.in_range;
   file = races.file.now;
   is_file = asks.is_races.file;
   observed = subst (IsObserved (first_of (codes "observe") (races_rows (drop 1 words)))) lines asks.is_races.observed;
-  shown = subst (λ (path : Option (List ℕ)). HasShown holding races.file.now (search_options_of (races_rows (drop 1 words))) path old new files files' found) (sym asks.is_races.journals)
-      (subst (λ (search_options : SearchOptions). HasShown holding races.file.now search_options (option_map (λ path. path.now) races.journals) old new files files' found) asks.is_races.search_options h);
+  shown = subst (λ (path : Option (List ℕ)). HasShown from races.file.now (search_options_of (races_rows (drop 1 words))) path old new files files' found) (sym asks.is_races.journals)
+      (subst (λ (search_options : SearchOptions). HasShown from races.file.now search_options (option_map (λ path. path.now) races.journals) old new files files' found) asks.is_races.search_options h);
 })
 
 -- a search for waves ended so
-pub waves_of_words : (holding : Option (List ℕ → List ℕ)) (words : List Text) (races : RacesRequest) (old new : Option (List ℕ)) (files files' : Option (List MadeFile)) (e : Ending)
-    → AsksRaces words races → HasObserved holding races.file.now races.observed races.search_options (option_map (λ path. path.now) races.journals) old new files files' e
-    → HasSearchedBy holding words old new files files' e
-waves_of_words holding words races old new files files' e asks h = record {
+pub waves_of_words : (from : Sources) (words : List Text) (races : RacesRequest) (old new : Option (List ℕ)) (files files' : Option (List MadeFile)) (e : Ending)
+    → AsksRaces words races → HasObserved from races.file.now races.observed races.search_options (option_map (λ path. path.now) races.journals) old new files files' e
+    → HasSearchedBy from words old new files files' e
+waves_of_words from words races old new files files' e asks h = record {
   begins = asks.begins;
   can_search = subst CanSearch asks.is_races.search_options asks.is_races.in_range;
   file = races.file.now;
   is_file = asks.is_races.file;
   asked = races.observed;
   observed = asks.is_races.observed;
-  has_observed = subst (λ (path : Option (List ℕ)). HasObserved holding races.file.now races.observed (search_options_of (races_rows (drop 1 words))) path old new files files' e) (sym asks.is_races.journals)
-      (subst (λ (search_options : SearchOptions). HasObserved holding races.file.now races.observed search_options (option_map (λ path. path.now) races.journals) old new files files' e) asks.is_races.search_options h);
+  has_observed = subst (λ (path : Option (List ℕ)). HasObserved from races.file.now races.observed (search_options_of (races_rows (drop 1 words))) path old new files files' e) (sym asks.is_races.journals)
+      (subst (λ (search_options : SearchOptions). HasObserved from races.file.now races.observed search_options (option_map (λ path. path.now) races.journals) old new files files' e) asks.is_races.search_options h);
 }
 
--- a search for waves ends as that of a command
-waves_ended : (holding : Option (List ℕ → List ℕ)) (words : List Text) (old new : Option (List ℕ)) (files files' : Option (List MadeFile)) (e : Ending) → HasSearchedBy holding words old new files files' e
-    → HasEnded holding words old new files files' e
-waves_ended holding words old new files files' ending.Done h = absurd h.has_observed.is_ending
-waves_ended holding words old new files files' (ending.Stopped s) h = absurd h.has_observed.is_ending
-waves_ended holding words old new files files' (ending.Found f) h = inr h
-waves_ended holding words old new files files' (ending.Wrong text) h = absurd h.has_observed.is_ending
-waves_ended holding words old new files files' (ending.NoRegister name) h = inl h
-waves_ended holding words old new files files' ending.Differ h = absurd h.has_observed.is_ending
+-- words that begin so don't ask for a check
+pub no_check : (words : List Text) (command : Text) → bytes_eq command (codes "check") ≡ false → Begins words command → Begins words (codes "check") → ⊥
+no_check words command apart begins check = unlike command (codes "check") apart (sym begins ∙ check)
 
-pub waves_performed_by : (holding : Option (List ℕ → List ℕ)) (words : List Text) (races : RacesRequest) (old new : Option (List ℕ)) (files files' : Option (List MadeFile)) (r : Result Ending CommandFault)
-    → AsksRaces words races → IfOk r (HasObserved holding races.file.now races.observed races.search_options (option_map (λ path. path.now) races.journals) old new files files')
-    → IfOk r (HasEnded holding words old new files files')
-waves_performed_by holding words races old new files files' (Ok e) asks h = waves_ended holding words old new files files' e (waves_of_words holding words races old new files files' e asks h)
-waves_performed_by holding words races old new files files' (Err f) asks h = tt
+-- a whole design is refused, as a command ends
+pub design_refused : (from : Sources) (words : List Text) (old new : Option (List ℕ)) (files files' : Option (List MadeFile)) → (Begins words (codes "check") → ⊥) → IsSome from.words × Keeps old new × KeepsFiles files files'
+    → HasRefusedDesign from words old new files files'
+design_refused from words old new files files' other (whole, keeps, saves) = record { other = other; whole = whole; unprinted = keeps; unsaved = saves }
+
+-- a search for waves ends as that of a command
+waves_ended : (from : Sources) (words : List Text) (races : RacesRequest) (old new : Option (List ℕ)) (files files' : Option (List MadeFile)) (e : Ending) → AsksRaces words races
+    → HasObservedTo from races.file.now races.observed races.search_options (option_map (λ path. path.now) races.journals) old new files files' e → HasEnded from words old new files files' e
+waves_ended from words races old new files files' ending.Done asks h = absurd h.is_ending
+waves_ended from words races old new files files' (ending.Stopped s) asks h = absurd h.is_ending
+waves_ended from words races old new files files' (ending.Found f) asks h = inr (waves_of_words from words races old new files files' (ending.Found f) asks h)
+waves_ended from words races old new files files' (ending.Wrong text) asks h = inr (design_refused from words old new files files' (no_check words (codes "races") refl asks.begins) h)
+waves_ended from words races old new files files' (ending.NoRegister name) asks h = inl (waves_of_words from words races old new files files' (ending.NoRegister name) asks h)
+waves_ended from words races old new files files' ending.Differ asks h = absurd h.is_ending
+
+pub waves_performed_by : (from : Sources) (words : List Text) (races : RacesRequest) (old new : Option (List ℕ)) (files files' : Option (List MadeFile)) (r : Result Ending CommandFault)
+    → AsksRaces words races → IfOk r (HasObservedTo from races.file.now races.observed races.search_options (option_map (λ path. path.now) races.journals) old new files files')
+    → IfOk r (HasEnded from words old new files files')
+waves_performed_by from words races old new files files' (Ok e) asks h = waves_ended from words races old new files files' e asks h
+waves_performed_by from words races old new files files' (Err f) asks h = tt
 
 pub some_saved_on : (a b c : Option (List MadeFile)) (prefix : Option (List ℕ)) (journals : List (List Entry)) → KeepsFiles a b
     → SavesSomeWhereAsked b c prefix journals → SavesSomeWhereAsked a c prefix journals
@@ -157,11 +172,11 @@ some_saved_on None b c (Some p) journals h (count, k) = (count, tt)
 some_saved_on (Some fs) b c (Some p) journals h k = subst (λ (o : Option (List MadeFile)). SavesSomeWhereAsked o c (Some p) journals) h k
 
 -- what a search left behind its races, where the files were the same before it
-more_on : (source : List ℕ) (design : Compiled) (search_options : SearchOptions) (prefix : Option (List ℕ)) (early : ToldRaces) (first : List ℕ) (old new : Option (List ℕ)) (a b c : Option (List MadeFile)) → KeepsFiles a b
-    → (Appends old new first × SavesSomeWhereAsked b c prefix (journals_of early.known.items None)) ⊎ HasSavedSome source design search_options prefix early first old new b c
-    → (Appends old new first × SavesSomeWhereAsked a c prefix (journals_of early.known.items None)) ⊎ HasSavedSome source design search_options prefix early first old new a c
-more_on source design search_options prefix early first old new a b c h (inl (p, s)) = inl (p, some_saved_on a b c prefix (journals_of early.known.items None) h s)
-more_on source design search_options prefix early first old new a b c h (inr m) = inr (record {
+more_on : (processes : List ProcessLocation) (source : List ℕ) (design : Compiled) (search_options : SearchOptions) (prefix : Option (List ℕ)) (early : ToldRaces) (first : List ℕ) (old new : Option (List ℕ)) (a b c : Option (List MadeFile)) → KeepsFiles a b
+    → (Appends old new first × SavesSomeWhereAsked b c prefix (journals_of early.known.items None)) ⊎ HasSavedSome processes source design search_options prefix early first old new b c
+    → (Appends old new first × SavesSomeWhereAsked a c prefix (journals_of early.known.items None)) ⊎ HasSavedSome processes source design search_options prefix early first old new a c
+more_on processes source design search_options prefix early first old new a b c h (inl (p, s)) = inl (p, some_saved_on a b c prefix (journals_of early.known.items None) h s)
+more_on processes source design search_options prefix early first old new a b c h (inr m) = inr (record {
   last = m.last;
   has_found = m.has_found;
   printed = m.printed;
@@ -169,33 +184,29 @@ more_on source design search_options prefix early first old new a b c h (inr m) 
 })
 
 -- what a search left, where the files were the same before it
-left_on : (holding : Option (List ℕ → List ℕ)) (file : List ℕ) (search_options : SearchOptions) (prefix : Option (List ℕ)) (old new : Option (List ℕ)) (a b c : Option (List MadeFile)) → KeepsFiles a b
-    → HasLeft holding file search_options prefix old new b c → HasLeft holding file search_options prefix old new a c
-left_on holding file search_options prefix old new a b c h (inl (k, s)) = inl (k, kept_on a b c h s)
-left_on holding file search_options prefix old new a b c h (inr begins) = inr (record {
-  source = begins.source;
-  held = begins.held;
-  design = begins.design;
-  is_design = begins.is_design;
+left_on : (from : Sources) (file : List ℕ) (search_options : SearchOptions) (prefix : Option (List ℕ)) (old new : Option (List ℕ)) (a b c : Option (List MadeFile)) → KeepsFiles a b
+    → HasLeft from file search_options prefix old new b c → HasLeft from file search_options prefix old new a c
+left_on from file search_options prefix old new a b c h (inl (k, s)) = inl (k, kept_on a b c h s)
+left_on from file search_options prefix old new a b c h (inr begins) = inr (record {
+  subject = begins.subject;
+  is_subject = begins.is_subject;
   early = begins.early;
   first = begins.first;
   is_first = begins.is_first;
-  left = more_on begins.source begins.design search_options prefix begins.early begins.first old new a b c h begins.left;
+  left = more_on begins.subject.processes.items begins.subject.source.items begins.subject.design search_options prefix begins.early begins.first old new a b c h begins.left;
 })
 
-pub search_left_on : (holding : Option (List ℕ → List ℕ)) (file : List ℕ) (search_options : SearchOptions) (prefix : Option (List ℕ)) (old new : Option (List ℕ)) (a b c : Option (List MadeFile)) (r : Result SearchFinding CommandFault) → KeepsFiles a b
-    → IfErr r (λ f. status_of f ≡ 6 → HasLeft holding file search_options prefix old new b c) → IfErr r (λ f. status_of f ≡ 6 → HasLeft holding file search_options prefix old new a c)
-search_left_on holding file search_options prefix old new a b c (Ok found) h k = tt
-search_left_on holding file search_options prefix old new a b c (Err f) h k = λ six. left_on holding file search_options prefix old new a b c h (k six)
+pub search_left_on : (from : Sources) (file : List ℕ) (search_options : SearchOptions) (prefix : Option (List ℕ)) (old new : Option (List ℕ)) (a b c : Option (List MadeFile)) (r : Result SearchFinding CommandFault) → KeepsFiles a b
+    → IfErr r (λ f. status_of f ≡ 6 → HasLeft from file search_options prefix old new b c) → IfErr r (λ f. status_of f ≡ 6 → HasLeft from file search_options prefix old new a c)
+search_left_on from file search_options prefix old new a b c (Ok found) h k = tt
+search_left_on from file search_options prefix old new a b c (Err f) h k = λ six. left_on from file search_options prefix old new a b c h (k six)
 
 -- what a search shows, where the files were the same before it
-pub shown_on : (holding : Option (List ℕ → List ℕ)) (file : List ℕ) (search_options : SearchOptions) (prefix : Option (List ℕ)) (old new : Option (List ℕ)) (a b c : Option (List MadeFile)) (r : Result SearchFinding CommandFault) → KeepsFiles a b
-    → IfOk r (HasShown holding file search_options prefix old new b c) → IfOk r (HasShown holding file search_options prefix old new a c)
-shown_on holding file search_options prefix old new a b c (Ok found) h k = record {
-  source = k.source;
-  held = k.held;
-  design = k.design;
-  is_design = k.is_design;
+pub shown_on : (from : Sources) (file : List ℕ) (search_options : SearchOptions) (prefix : Option (List ℕ)) (old new : Option (List ℕ)) (a b c : Option (List MadeFile)) (r : Result SearchFinding CommandFault) → KeepsFiles a b
+    → IfOk r (HasShown from file search_options prefix old new b c) → IfOk r (HasShown from file search_options prefix old new a c)
+shown_on from file search_options prefix old new a b c (Ok found) h k = record {
+  subject = k.subject;
+  is_subject = k.is_subject;
   early = k.early;
   first = k.first;
   is_first = k.is_first;
@@ -205,7 +216,7 @@ shown_on holding file search_options prefix old new a b c (Ok found) h k = recor
   saved = all_saved_on a b c prefix (journals_of k.has_found.shown k.has_found.endless) h k.saved;
   finding = k.finding;
 }
-shown_on holding file search_options prefix old new a b c (Err fault) h k = tt
+shown_on from file search_options prefix old new a b c (Err fault) h k = tt
 
 -- faults of output and of memory are none of a source
 pub output_kept : {T : Type 0} (K : Type 0) (r : Result T CommandFault) → IfErr r (λ f. (status_of f ≡ 1) ⊎ (status_of f ≡ 6))
@@ -221,14 +232,14 @@ output_kept K (Err fault) h = λ e. absurd (neither (status_of fault) h e)
 
 -- refusals
 
-pub refused_done : (holding : Option (List ℕ → List ℕ)) (words : List Text) (r : NoRequest) (n : ℕ) (old new : Option (List ℕ)) (files : Option (List MadeFile)) → IsNoRequest words r
-    → IsNoRequestStatus r n → (n ≡ 0 → Appends old new (help_text r)) → n ≡ 0 → IsDone holding words old new files files
-refused_done holding words (no_request.Help text) n old new files is status shown e = helped is (help_text (no_request.Help text)) (shown e) (kept files)
-refused_done holding words (no_request.Usage text) n old new files is status shown e = absurd (clash (sym status ∙ e))
+pub refused_done : (from : Sources) (words : List Text) (r : NoRequest) (n : ℕ) (old new : Option (List ℕ)) (files : Option (List MadeFile)) → IsNoRequest words r
+    → IsNoRequestStatus r n → (n ≡ 0 → Appends old new (help_text r)) → n ≡ 0 → IsDone from words old new files files
+refused_done from words (no_request.Help text) n old new files is status shown e = helped is (help_text (no_request.Help text)) (shown e) (kept files)
+refused_done from words (no_request.Usage text) n old new files is status shown e = absurd (clash (sym status ∙ e))
   where
     clash : ◌≡◌ {A = ℕ} 2 0 → ⊥
     clash q = cc
-refused_done holding words no_request.Memory n old new files is status shown e = absurd (clash (sym status ∙ e))
+refused_done from words no_request.Memory n old new files is status shown e = absurd (clash (sym status ∙ e))
   where
     clash : ◌≡◌ {A = ℕ} 6 0 → ⊥
     clash q = cc
@@ -250,18 +261,18 @@ refused_wrong words no_request.Memory n is status e = absurd (clash (sym status 
 
 -- what a status tells of how a command ended
 
-pub done_by_status : (holding : Option (List ℕ → List ℕ)) (words : List Text) (old new : Option (List ℕ)) (files files' : Option (List MadeFile)) (ended : Result Ending CommandFault)
-    → IfOk ended (HasEnded holding words old new files files') → ended_status ended ≡ 0 → IsDone holding words old new files files'
-done_by_status holding words old new files files' (Ok ending.Done) h e = h
-done_by_status holding words old new files files' (Ok (ending.Stopped s)) h e = absurd (not_of_stop s 0 refl e)
-done_by_status holding words old new files files' (Ok (ending.Found finding.One)) h e = searched h
-done_by_status holding words old new files files' (Ok (ending.Found finding.Unfinished)) h e = cc
-done_by_status holding words old new files files' (Ok (ending.Found finding.Memory)) h e = cc
-done_by_status holding words old new files files' (Ok (ending.Found finding.Several)) h e = cc
-done_by_status holding words old new files files' (Ok (ending.Wrong text)) h e = cc
-done_by_status holding words old new files files' (Ok (ending.NoRegister name)) h e = cc
-done_by_status holding words old new files files' (Ok ending.Differ) h e = cc
-done_by_status holding words old new files files' (Err f) h e = absurd (not_of_fault f 0 refl e)
+pub done_by_status : (from : Sources) (words : List Text) (old new : Option (List ℕ)) (files files' : Option (List MadeFile)) (ended : Result Ending CommandFault)
+    → IfOk ended (HasEnded from words old new files files') → ended_status ended ≡ 0 → IsDone from words old new files files'
+done_by_status from words old new files files' (Ok ending.Done) h e = h
+done_by_status from words old new files files' (Ok (ending.Stopped s)) h e = absurd (not_of_stop s 0 refl e)
+done_by_status from words old new files files' (Ok (ending.Found finding.One)) h e = searched h
+done_by_status from words old new files files' (Ok (ending.Found finding.Unfinished)) h e = cc
+done_by_status from words old new files files' (Ok (ending.Found finding.Memory)) h e = cc
+done_by_status from words old new files files' (Ok (ending.Found finding.Several)) h e = cc
+done_by_status from words old new files files' (Ok (ending.Wrong text)) h e = cc
+done_by_status from words old new files files' (Ok (ending.NoRegister name)) h e = cc
+done_by_status from words old new files files' (Ok ending.Differ) h e = cc
+done_by_status from words old new files files' (Err f) h e = absurd (not_of_fault f 0 refl e)
 
 -- the option that names registers is that of the command which the words ask for
 
@@ -273,6 +284,7 @@ option_of_races words (request.Check check) asks begins = refl
 option_of_races words (request.Explain explain) asks begins = absurd (unlike (codes "explain") (codes "races") refl (sym asks.begins ∙ begins))
 option_of_races words (request.Waves waves) asks begins = refl
 option_of_races words (request.Diff diff) asks begins = refl
+option_of_races words (request.Flatten flatten) asks begins = refl
 option_of_races words request.Version asks begins = refl
 
 option_of_explain : (words : List Text) (r : Request) → Asks words r → Begins words (codes "explain") → naming_option r ≡ options.Registers
@@ -283,6 +295,7 @@ option_of_explain words (request.Check check) asks begins = absurd (unlike (code
 option_of_explain words (request.Explain explain) asks begins = refl
 option_of_explain words (request.Waves waves) asks begins = absurd (unlike (codes "waves") (codes "explain") refl (sym asks.begins ∙ begins))
 option_of_explain words (request.Diff diff) asks begins = absurd (unlike (codes "diff") (codes "explain") refl (sym asks.begins ∙ begins))
+option_of_explain words (request.Flatten flatten) asks begins = absurd (unlike (codes "flatten") (codes "explain") refl (sym asks.begins ∙ begins))
 option_of_explain words request.Version asks begins = absurd (unlike (codes "--version") (codes "explain") refl (sym asks ∙ begins))
 
 -- the line of a name, told with one option, is that with the other where the two are the same
@@ -290,88 +303,89 @@ told_with : {E : Type 0} (contents : E → Option (List ℕ)) (err err' : Counte
 told_with contents err err' name one other same told = subst (λ (o : RegisterOption). Tells contents err err' (no_register_line o name)) same told
 
 -- a name that no register has is the only end with that status
-pub unnamed_by_status : {E : Type 0} (holding : Option (List ℕ → List ℕ)) (words : List Text) (old new : Option (List ℕ)) (files files' : Option (List MadeFile)) (contents : E → Option (List ℕ))
+pub unnamed_by_status : {E : Type 0} (from : Sources) (words : List Text) (old new : Option (List ℕ)) (files files' : Option (List MadeFile)) (contents : E → Option (List ℕ))
     (err err' : Counted E) (option : RegisterOption) (r : Request) (ended : Result Ending CommandFault)
-    → Asks words r → option ≡ naming_option r → IfOk ended (HasEnded holding words old new files files') → IsEndTold contents err err' option ended → ended_status ended ≡ 2
-    → HasNamedNoRegister holding words old new files files' contents err err'
-unnamed_by_status holding words old new files files' contents err err' option r (Ok ending.Done) asks is h t e = cc
-unnamed_by_status holding words old new files files' contents err err' option r (Ok (ending.Stopped s)) asks is h t e = absurd (not_of_stop s 2 refl e)
-unnamed_by_status holding words old new files files' contents err err' option r (Ok (ending.Found finding.One)) asks is h t e = cc
-unnamed_by_status holding words old new files files' contents err err' option r (Ok (ending.Found finding.Unfinished)) asks is h t e = cc
-unnamed_by_status holding words old new files files' contents err err' option r (Ok (ending.Found finding.Memory)) asks is h t e = cc
-unnamed_by_status holding words old new files files' contents err err' option r (Ok (ending.Found finding.Several)) asks is h t e = cc
-unnamed_by_status holding words old new files files' contents err err' option r (Ok (ending.Wrong text)) asks is h t e = cc
-unnamed_by_status holding words old new files files' contents err err' option r (Ok (ending.NoRegister name)) asks is (inl h) t e = record {
+    → Asks words r → option ≡ naming_option r → IfOk ended (HasEnded from words old new files files') → IsEndTold contents err err' option ended → ended_status ended ≡ 2
+    → HasNamedNoRegister from words old new files files' contents err err'
+unnamed_by_status from words old new files files' contents err err' option r (Ok ending.Done) asks is h t e = cc
+unnamed_by_status from words old new files files' contents err err' option r (Ok (ending.Stopped s)) asks is h t e = absurd (not_of_stop s 2 refl e)
+unnamed_by_status from words old new files files' contents err err' option r (Ok (ending.Found finding.One)) asks is h t e = cc
+unnamed_by_status from words old new files files' contents err err' option r (Ok (ending.Found finding.Unfinished)) asks is h t e = cc
+unnamed_by_status from words old new files files' contents err err' option r (Ok (ending.Found finding.Memory)) asks is h t e = cc
+unnamed_by_status from words old new files files' contents err err' option r (Ok (ending.Found finding.Several)) asks is h t e = cc
+unnamed_by_status from words old new files files' contents err err' option r (Ok (ending.Wrong text)) asks is h t e = cc
+unnamed_by_status from words old new files files' contents err err' option r (Ok (ending.NoRegister name)) asks is (inl h) t e = record {
   name = string_bytes name;
   option = options.Observe;
   asked = (ending.NoRegister name, refl, h);
   told = told_with contents err err' (string_bytes name) option options.Observe (is ∙ option_of_races words r asks h.begins) t;
 }
-unnamed_by_status holding words old new files files' contents err err' option r (Ok (ending.NoRegister name)) asks is (inr h) t e = record {
+unnamed_by_status from words old new files files' contents err err' option r (Ok (ending.NoRegister name)) asks is (inr h) t e = record {
   name = string_bytes name;
   option = options.Registers;
   asked = h;
   told = told_with contents err err' (string_bytes name) option options.Registers (is ∙ option_of_explain words r asks h.begins) t;
 }
-unnamed_by_status holding words old new files files' contents err err' option r (Ok ending.Differ) asks is h t e = cc
-unnamed_by_status holding words old new files files' contents err err' option r (Err f) asks is h t e = absurd (not_of_fault f 2 refl e)
+unnamed_by_status from words old new files files' contents err err' option r (Ok ending.Differ) asks is h t e = cc
+unnamed_by_status from words old new files files' contents err err' option r (Err f) asks is h t e = absurd (not_of_fault f 2 refl e)
 
-pub refused_by_status : (holding : Option (List ℕ → List ℕ)) (words : List Text) (old new : Option (List ℕ)) (files files' : Option (List MadeFile)) (ended : Result Ending CommandFault)
-    → IfOk ended (HasEnded holding words old new files files') → IfErr ended (λ f. (status_of f ≡ 1) ⊎ (status_of f ≡ 6)) → ended_status ended ≡ 3
-    → HasRefused holding words old new files files'
-refused_by_status holding words old new files files' (Ok ending.Done) h k e = cc
-refused_by_status holding words old new files files' (Ok (ending.Stopped s)) h k e = absurd (not_of_stop s 3 refl e)
-refused_by_status holding words old new files files' (Ok (ending.Found finding.One)) h k e = cc
-refused_by_status holding words old new files files' (Ok (ending.Found finding.Unfinished)) h k e = cc
-refused_by_status holding words old new files files' (Ok (ending.Found finding.Memory)) h k e = cc
-refused_by_status holding words old new files files' (Ok (ending.Found finding.Several)) h k e = cc
-refused_by_status holding words old new files files' (Ok (ending.Wrong text)) h k e = h
-refused_by_status holding words old new files files' (Ok (ending.NoRegister name)) h k e = cc
-refused_by_status holding words old new files files' (Ok ending.Differ) h k e = cc
-refused_by_status holding words old new files files' (Err f) h (inl one) e = absurd (omega (arith, one, e))
-refused_by_status holding words old new files files' (Err f) h (inr six) e = absurd (omega (arith, six, e))
+pub refused_by_status : (from : Sources) (words : List Text) (old new : Option (List ℕ)) (files files' : Option (List MadeFile)) (ended : Result Ending CommandFault)
+    → IfOk ended (HasEnded from words old new files files') → Begins words (codes "check") → IfErr ended (λ f. (status_of f ≡ 1) ⊎ (status_of f ≡ 6)) → ended_status ended ≡ 3
+    → HasRefused from words old new files files'
+refused_by_status from words old new files files' (Ok ending.Done) h begins k e = cc
+refused_by_status from words old new files files' (Ok (ending.Stopped s)) h begins k e = absurd (not_of_stop s 3 refl e)
+refused_by_status from words old new files files' (Ok (ending.Found finding.One)) h begins k e = cc
+refused_by_status from words old new files files' (Ok (ending.Found finding.Unfinished)) h begins k e = cc
+refused_by_status from words old new files files' (Ok (ending.Found finding.Memory)) h begins k e = cc
+refused_by_status from words old new files files' (Ok (ending.Found finding.Several)) h begins k e = cc
+refused_by_status from words old new files files' (Ok (ending.Wrong text)) (inl h) begins k e = h
+refused_by_status from words old new files files' (Ok (ending.Wrong text)) (inr h) begins k e = absurd (h.other begins)
+refused_by_status from words old new files files' (Ok (ending.NoRegister name)) h begins k e = cc
+refused_by_status from words old new files files' (Ok ending.Differ) h begins k e = cc
+refused_by_status from words old new files files' (Err f) h begins (inl one) e = absurd (omega (arith, one, e))
+refused_by_status from words old new files files' (Err f) h begins (inr six) e = absurd (omega (arith, six, e))
 
-pub faulty_by_status : {E : Type 0} (holding : Option (List ℕ → List ℕ)) (words : List Text) (old new : Option (List ℕ)) (contents : E → Option (List ℕ)) (err err' : Counted E) (option : RegisterOption) (ended : Result Ending CommandFault)
-    → IfErr ended (λ f. status_of f ≡ 5 → HasExplainedPart holding words old new f) → IsEndTold contents err err' option ended → ended_status ended ≡ 5
-    → HasExplainedTold holding words old new contents err err'
-faulty_by_status holding words old new contents err err' option (Ok ending.Done) h t e = cc
-faulty_by_status holding words old new contents err err' option (Ok (ending.Stopped s)) h t e = absurd (not_of_stop s 5 refl e)
-faulty_by_status holding words old new contents err err' option (Ok (ending.Found finding.One)) h t e = cc
-faulty_by_status holding words old new contents err err' option (Ok (ending.Found finding.Unfinished)) h t e = cc
-faulty_by_status holding words old new contents err err' option (Ok (ending.Found finding.Memory)) h t e = cc
-faulty_by_status holding words old new contents err err' option (Ok (ending.Found finding.Several)) h t e = cc
-faulty_by_status holding words old new contents err err' option (Ok (ending.Wrong text)) h t e = cc
-faulty_by_status holding words old new contents err err' option (Ok (ending.NoRegister name)) h t e = cc
-faulty_by_status holding words old new contents err err' option (Ok ending.Differ) h t e = cc
-faulty_by_status holding words old new contents err err' option (Err f) h t e = record { fault = f; explained = h e; told = t }
+pub faulty_by_status : {E : Type 0} (from : Sources) (words : List Text) (old new : Option (List ℕ)) (contents : E → Option (List ℕ)) (err err' : Counted E) (option : RegisterOption) (ended : Result Ending CommandFault)
+    → IfErr ended (λ f. status_of f ≡ 5 → HasExplainedPart from words old new f) → IsEndTold contents err err' option ended → ended_status ended ≡ 5
+    → HasExplainedTold from words old new contents err err'
+faulty_by_status from words old new contents err err' option (Ok ending.Done) h t e = cc
+faulty_by_status from words old new contents err err' option (Ok (ending.Stopped s)) h t e = absurd (not_of_stop s 5 refl e)
+faulty_by_status from words old new contents err err' option (Ok (ending.Found finding.One)) h t e = cc
+faulty_by_status from words old new contents err err' option (Ok (ending.Found finding.Unfinished)) h t e = cc
+faulty_by_status from words old new contents err err' option (Ok (ending.Found finding.Memory)) h t e = cc
+faulty_by_status from words old new contents err err' option (Ok (ending.Found finding.Several)) h t e = cc
+faulty_by_status from words old new contents err err' option (Ok (ending.Wrong text)) h t e = cc
+faulty_by_status from words old new contents err err' option (Ok (ending.NoRegister name)) h t e = cc
+faulty_by_status from words old new contents err err' option (Ok ending.Differ) h t e = cc
+faulty_by_status from words old new contents err err' option (Err f) h t e = record { fault = f; explained = h e; told = t }
 
-pub stopped_by_status : {E : Type 0} (holding : Option (List ℕ → List ℕ)) (words : List Text) (old new : Option (List ℕ)) (files files' : Option (List MadeFile)) (contents : E → Option (List ℕ))
-    (err err' : Counted E) (option : RegisterOption) (ended : Result Ending CommandFault) → IfOk ended (HasEnded holding words old new files files') → IsEndTold contents err err' option ended
-    → ended_status ended ≡ 4 → IsUnfinished holding words old new files files' contents err err'
-stopped_by_status holding words old new files files' contents err err' option (Ok ending.Done) h t e = cc
-stopped_by_status holding words old new files files' contents err err' option (Ok (ending.Stopped s)) h t e = inl (record { stop = s; status_is = e; has_run = h; told = t })
-stopped_by_status holding words old new files files' contents err err' option (Ok (ending.Found finding.One)) h t e = cc
-stopped_by_status holding words old new files files' contents err err' option (Ok (ending.Found finding.Unfinished)) h t e = inr (h, t)
-stopped_by_status holding words old new files files' contents err err' option (Ok (ending.Found finding.Memory)) h t e = cc
-stopped_by_status holding words old new files files' contents err err' option (Ok (ending.Found finding.Several)) h t e = cc
-stopped_by_status holding words old new files files' contents err err' option (Ok (ending.Wrong text)) h t e = cc
-stopped_by_status holding words old new files files' contents err err' option (Ok (ending.NoRegister name)) h t e = cc
-stopped_by_status holding words old new files files' contents err err' option (Ok ending.Differ) h t e = cc
-stopped_by_status holding words old new files files' contents err err' option (Err f) h t e = absurd (not_of_fault f 4 refl e)
+pub stopped_by_status : {E : Type 0} (from : Sources) (words : List Text) (old new : Option (List ℕ)) (files files' : Option (List MadeFile)) (contents : E → Option (List ℕ))
+    (err err' : Counted E) (option : RegisterOption) (ended : Result Ending CommandFault) → IfOk ended (HasEnded from words old new files files') → IsEndTold contents err err' option ended
+    → ended_status ended ≡ 4 → IsUnfinished from words old new files files' contents err err'
+stopped_by_status from words old new files files' contents err err' option (Ok ending.Done) h t e = cc
+stopped_by_status from words old new files files' contents err err' option (Ok (ending.Stopped s)) h t e = inl (record { stop = s; status_is = e; has_run = h; told = t })
+stopped_by_status from words old new files files' contents err err' option (Ok (ending.Found finding.One)) h t e = cc
+stopped_by_status from words old new files files' contents err err' option (Ok (ending.Found finding.Unfinished)) h t e = inr (h, t)
+stopped_by_status from words old new files files' contents err err' option (Ok (ending.Found finding.Memory)) h t e = cc
+stopped_by_status from words old new files files' contents err err' option (Ok (ending.Found finding.Several)) h t e = cc
+stopped_by_status from words old new files files' contents err err' option (Ok (ending.Wrong text)) h t e = cc
+stopped_by_status from words old new files files' contents err err' option (Ok (ending.NoRegister name)) h t e = cc
+stopped_by_status from words old new files files' contents err err' option (Ok ending.Differ) h t e = cc
+stopped_by_status from words old new files files' contents err err' option (Err f) h t e = absurd (not_of_fault f 4 refl e)
 
-pub wanting_by_status : {E : Type 0} (holding : Option (List ℕ → List ℕ)) (words : List Text) (old new : Option (List ℕ)) (files files' : Option (List MadeFile)) (contents : E → Option (List ℕ))
-    (err err' : Counted E) (option : RegisterOption) (ended : Result Ending CommandFault) → IfOk ended (HasEnded holding words old new files files') → IfErr ended (λ f. status_of f ≡ 6 → IsLeft holding words old new files files')
-    → IsEndTold contents err err' option ended → ended_status ended ≡ 6 → IsWanting holding words old new files files' contents err err'
-wanting_by_status holding words old new files files' contents err err' option (Ok ending.Done) h k t e = cc
-wanting_by_status holding words old new files files' contents err err' option (Ok (ending.Stopped s)) h k t e = inl (inl (record { stop = s; status_is = e; has_run = h; told = t }))
-wanting_by_status holding words old new files files' contents err err' option (Ok (ending.Found finding.One)) h k t e = cc
-wanting_by_status holding words old new files files' contents err err' option (Ok (ending.Found finding.Unfinished)) h k t e = cc
-wanting_by_status holding words old new files files' contents err err' option (Ok (ending.Found finding.Memory)) h k t e = inl (inr (record { has_searched = h; told = t }))
-wanting_by_status holding words old new files files' contents err err' option (Ok (ending.Found finding.Several)) h k t e = cc
-wanting_by_status holding words old new files files' contents err err' option (Ok (ending.Wrong text)) h k t e = cc
-wanting_by_status holding words old new files files' contents err err' option (Ok (ending.NoRegister name)) h k t e = cc
-wanting_by_status holding words old new files files' contents err err' option (Ok ending.Differ) h k t e = cc
-wanting_by_status holding words old new files files' contents err err' option (Err f) h k t e = inr (k e)
+pub wanting_by_status : {E : Type 0} (from : Sources) (words : List Text) (old new : Option (List ℕ)) (files files' : Option (List MadeFile)) (contents : E → Option (List ℕ))
+    (err err' : Counted E) (option : RegisterOption) (ended : Result Ending CommandFault) → IfOk ended (HasEnded from words old new files files') → IfErr ended (λ f. status_of f ≡ 6 → IsLeft from words old new files files')
+    → IsEndTold contents err err' option ended → ended_status ended ≡ 6 → IsWanting from words old new files files' contents err err'
+wanting_by_status from words old new files files' contents err err' option (Ok ending.Done) h k t e = cc
+wanting_by_status from words old new files files' contents err err' option (Ok (ending.Stopped s)) h k t e = inl (inl (record { stop = s; status_is = e; has_run = h; told = t }))
+wanting_by_status from words old new files files' contents err err' option (Ok (ending.Found finding.One)) h k t e = cc
+wanting_by_status from words old new files files' contents err err' option (Ok (ending.Found finding.Unfinished)) h k t e = cc
+wanting_by_status from words old new files files' contents err err' option (Ok (ending.Found finding.Memory)) h k t e = inl (inr (record { has_searched = h; told = t }))
+wanting_by_status from words old new files files' contents err err' option (Ok (ending.Found finding.Several)) h k t e = cc
+wanting_by_status from words old new files files' contents err err' option (Ok (ending.Wrong text)) h k t e = cc
+wanting_by_status from words old new files files' contents err err' option (Ok (ending.NoRegister name)) h k t e = cc
+wanting_by_status from words old new files files' contents err err' option (Ok ending.Differ) h k t e = cc
+wanting_by_status from words old new files files' contents err err' option (Err f) h k t e = inr (k e)
 
 -- the only ends with that status
 is_several : (ended : Result Ending CommandFault) → ended_status ended ≡ 7 → (ended ≡ Ok (ending.Found finding.Several)) ⊎ (ended ≡ Ok ending.Differ)
@@ -386,11 +400,11 @@ is_several (Ok (ending.NoRegister name)) e = cc
 is_several (Ok ending.Differ) e = inr refl
 is_several (Err f) e = absurd (not_of_fault f 7 refl e)
 
-pub several_by_status : (holding : Option (List ℕ → List ℕ)) (words : List Text) (old new : Option (List ℕ)) (files files' : Option (List MadeFile)) (ended : Result Ending CommandFault)
-    → IfOk ended (HasEnded holding words old new files files') → ended_status ended ≡ 7 → HaveDiffered holding words old new files files'
-several_by_status holding words old new files files' ended h e = elim (is_several ended e) [
-  | inl is ↦ inl (subst (λ (r : Result Ending CommandFault). IfOk r (HasEnded holding words old new files files')) is h)
-  | inr is ↦ inr (subst (λ (r : Result Ending CommandFault). IfOk r (HasEnded holding words old new files files')) is h)
+pub several_by_status : (from : Sources) (words : List Text) (old new : Option (List ℕ)) (files files' : Option (List MadeFile)) (ended : Result Ending CommandFault)
+    → IfOk ended (HasEnded from words old new files files') → ended_status ended ≡ 7 → HaveDiffered from words old new files files'
+several_by_status from words old new files files' ended h e = elim (is_several ended e) [
+  | inl is ↦ inl (subst (λ (r : Result Ending CommandFault). IfOk r (HasEnded from words old new files files')) is h)
+  | inr is ↦ inr (subst (λ (r : Result Ending CommandFault). IfOk r (HasEnded from words old new files files')) is h)
 ]
 
 -- statuses 2, 3 and 5
@@ -439,29 +453,31 @@ source_status words n (inl e) = inl e
 source_status words n (inr (inl e)) = inr (inl e)
 source_status words n (inr (inr (e, other))) = inr (inr e)
 
-pub nothing_by_status : (holding : Option (List ℕ → List ℕ)) (words : List Text) (old new : Option (List ℕ)) (files files' : Option (List MadeFile)) (ended : Result Ending CommandFault)
-    → IfOk ended (HasEnded holding words old new files files') → IfErr ended (λ f. IsUnprinted words (status_of f) → Keeps old new)
+pub nothing_by_status : (from : Sources) (words : List Text) (old new : Option (List ℕ)) (files files' : Option (List MadeFile)) (ended : Result Ending CommandFault)
+    → IfOk ended (HasEnded from words old new files files') → IfErr ended (λ f. IsUnprinted words (status_of f) → Keeps old new)
     → IsUnprinted words (ended_status ended) → Keeps old new
-nothing_by_status holding words old new files files' (Ok ending.Done) h k e = absurd (no_zero (source_status words 0 e))
-nothing_by_status holding words old new files files' (Ok (ending.Stopped s)) h k e = absurd (no_stop s (source_status words (stop_status s) e))
-nothing_by_status holding words old new files files' (Ok (ending.Found found)) h k e = absurd (no_finding found (source_status words (finding_status found) e))
-nothing_by_status holding words old new files files' (Ok (ending.Wrong text)) h k e = h.unprinted
-nothing_by_status holding words old new files files' (Ok (ending.NoRegister name)) (inl h) k e = h.has_observed.is_ending.1
-nothing_by_status holding words old new files files' (Ok (ending.NoRegister name)) (inr h) k e = h.unprinted
-nothing_by_status holding words old new files files' (Ok ending.Differ) h k e = absurd (no_seven (source_status words 7 e))
-nothing_by_status holding words old new files files' (Err f) h k e = k e
+nothing_by_status from words old new files files' (Ok ending.Done) h k e = absurd (no_zero (source_status words 0 e))
+nothing_by_status from words old new files files' (Ok (ending.Stopped s)) h k e = absurd (no_stop s (source_status words (stop_status s) e))
+nothing_by_status from words old new files files' (Ok (ending.Found found)) h k e = absurd (no_finding found (source_status words (finding_status found) e))
+nothing_by_status from words old new files files' (Ok (ending.Wrong text)) (inl h) k e = h.unprinted
+nothing_by_status from words old new files files' (Ok (ending.Wrong text)) (inr h) k e = h.unprinted
+nothing_by_status from words old new files files' (Ok (ending.NoRegister name)) (inl h) k e = h.has_observed.is_ending.1
+nothing_by_status from words old new files files' (Ok (ending.NoRegister name)) (inr h) k e = h.unprinted
+nothing_by_status from words old new files files' (Ok ending.Differ) h k e = absurd (no_seven (source_status words 7 e))
+nothing_by_status from words old new files files' (Err f) h k e = k e
 
-pub unsaved_by_status : (holding : Option (List ℕ → List ℕ)) (words : List Text) (old new : Option (List ℕ)) (files files' : Option (List MadeFile)) (ended : Result Ending CommandFault)
-    → IfOk ended (HasEnded holding words old new files files') → IfErr ended (λ f. (status_of f ≡ 3) ⊎ (status_of f ≡ 5) → KeepsFiles files files')
+pub unsaved_by_status : (from : Sources) (words : List Text) (old new : Option (List ℕ)) (files files' : Option (List MadeFile)) (ended : Result Ending CommandFault)
+    → IfOk ended (HasEnded from words old new files files') → IfErr ended (λ f. (status_of f ≡ 3) ⊎ (status_of f ≡ 5) → KeepsFiles files files')
     → IsSourceStatus (ended_status ended) → KeepsFiles files files'
-unsaved_by_status holding words old new files files' (Ok ending.Done) h k e = absurd (no_zero e)
-unsaved_by_status holding words old new files files' (Ok (ending.Stopped s)) h k e = absurd (no_stop s e)
-unsaved_by_status holding words old new files files' (Ok (ending.Found found)) h k e = absurd (no_finding found e)
-unsaved_by_status holding words old new files files' (Ok (ending.Wrong text)) h k e = h.unsaved
-unsaved_by_status holding words old new files files' (Ok (ending.NoRegister name)) (inl h) k e = h.has_observed.is_ending.2
-unsaved_by_status holding words old new files files' (Ok (ending.NoRegister name)) (inr h) k e = h.unsaved
-unsaved_by_status holding words old new files files' (Ok ending.Differ) h k e = absurd (no_seven e)
-unsaved_by_status holding words old new files files' (Err f) h k e = k (of_source_or_journal f e)
+unsaved_by_status from words old new files files' (Ok ending.Done) h k e = absurd (no_zero e)
+unsaved_by_status from words old new files files' (Ok (ending.Stopped s)) h k e = absurd (no_stop s e)
+unsaved_by_status from words old new files files' (Ok (ending.Found found)) h k e = absurd (no_finding found e)
+unsaved_by_status from words old new files files' (Ok (ending.Wrong text)) (inl h) k e = h.unsaved
+unsaved_by_status from words old new files files' (Ok (ending.Wrong text)) (inr h) k e = h.unsaved
+unsaved_by_status from words old new files files' (Ok (ending.NoRegister name)) (inl h) k e = h.has_observed.is_ending.2
+unsaved_by_status from words old new files files' (Ok (ending.NoRegister name)) (inr h) k e = h.unsaved
+unsaved_by_status from words old new files files' (Ok ending.Differ) h k e = absurd (no_seven e)
+unsaved_by_status from words old new files files' (Err f) h k e = k (of_source_or_journal f e)
 
 pub silent_by_status : {E : Type 0} (contents : E → Option (List ℕ)) (err err' : Counted E) (option : RegisterOption) (ended : Result Ending CommandFault) → IsEndTold contents err err' option ended
     → (ended_status ended ≡ 0) ⊎ (ended_status ended ≡ 7) → err' ≡ err
@@ -481,19 +497,48 @@ silent_by_status contents err err' option (Ok ending.Differ) t e = t
 silent_by_status contents err err' option (Err f) t (inl e) = absurd (not_of_fault f 0 refl e)
 silent_by_status contents err err' option (Err f) t (inr e) = absurd (not_of_fault f 7 refl e)
 
-pub told_by_status : {E : Type 0} (holding : Option (List ℕ → List ℕ)) (contents : E → Option (List ℕ)) (err err' : Counted E) (words : List Text) (old new : Option (List ℕ)) (files files' : Option (List MadeFile)) (option : RegisterOption) (r : Request) (ended : Result Ending CommandFault)
-    → Asks words r → option ≡ naming_option r → IfOk ended (HasEnded holding words old new files files') → IsEndTold contents err err' option ended → IsReported contents err err' words (ended_status ended)
-told_by_status holding contents err err' words old new files files' option r (Ok ending.Done) asks is h t = nothing (inl refl) t
-told_by_status holding contents err err' words old new files files' option r (Ok (ending.Stopped s)) asks is h t = of_stop s refl t
-told_by_status holding contents err err' words old new files files' option r (Ok (ending.Found finding.One)) asks is h t = nothing (inl refl) t
-told_by_status holding contents err err' words old new files files' option r (Ok (ending.Found finding.Unfinished)) asks is h t = nothing (inr (inl refl)) t
-told_by_status holding contents err err' words old new files files' option r (Ok (ending.Found finding.Memory)) asks is h t = of_fault faults.Memory refl t
-told_by_status holding contents err err' words old new files files' option r (Ok (ending.Found finding.Several)) asks is h t = nothing (inr (inr refl)) t
-told_by_status holding contents err err' words old new files files' option r (Ok (ending.Wrong text)) asks is h t = of_source h.begins refl (string_bytes text) t
-told_by_status holding contents err err' words old new files files' option r (Ok (ending.NoRegister name)) asks is (inl h) t = of_name options.Observe h.begins refl (string_bytes name) (told_with contents err err' (string_bytes name) option options.Observe (is ∙ option_of_races words r asks h.begins) t)
-told_by_status holding contents err err' words old new files files' option r (Ok (ending.NoRegister name)) asks is (inr h) t = of_name options.Registers h.begins refl (string_bytes name) (told_with contents err err' (string_bytes name) option options.Registers (is ∙ option_of_explain words r asks h.begins) t)
-told_by_status holding contents err err' words old new files files' option r (Ok ending.Differ) asks is h t = nothing (inr (inr refl)) t
-told_by_status holding contents err err' words old new files files' option r (Err f) asks is h t = of_fault f refl t
+-- a command line begins as what is left of it
+pub begins_all : (all words : List Text) (asked : Option DesignWords) (command : Text) → AreLeft all asked words → Begins words command → Begins all command
+begins_all all words None command left begins = subst (λ (ws : List Text). Begins ws command) (sym left) begins
+begins_all [] words (Some asked) command left begins = absurd left
+begins_all (program ∷ []) words (Some asked) command left begins = absurd left
+begins_all (program ∷ first ∷ own) words (Some asked) command left begins = subst (λ (ws : List Text). Begins ws command) left.rest_is begins
+
+-- a command line of which something is left asks for a whole design
+pub asks_all : (all words : List Text) (asked : Option DesignWords) → AreLeft all asked words → IsSome asked → AskWhole all ≡ true
+asks_all all words None left some = cc
+asks_all [] words (Some asked) left some = absurd left
+asks_all (program ∷ []) words (Some asked) left some = absurd left
+asks_all (program ∷ first ∷ own) words (Some asked) left some = left.asks
+
+-- what is reported of what is left is so of the whole line
+pub reported_all : {E : Type 0} (contents : E → Option (List ℕ)) (err err' : Counted E) (all words : List Text) (asked : Option DesignWords) (status : ℕ) → AreLeft all asked words → IsReported contents err err' words status → IsReported contents err err' all status
+reported_all contents err err' all words None status left is = subst (λ (ws : List Text). IsReported contents err err' ws status) (sym left) is
+reported_all contents err err' all words (Some asked) status left (of_fault f e t) = of_fault f e t
+reported_all contents err err' all words (Some asked) status left (of_stop s e t) = of_stop s e t
+reported_all contents err err' all words (Some asked) status left (of_words h e text t) = of_words (inr (asks_all all words (Some asked) left refl)) e text t
+reported_all contents err err' all words (Some asked) status left (of_name option begins e name t) = of_name option (begins_all all words (Some asked) (word_of_option option) left begins) e name t
+reported_all contents err err' all words (Some asked) status left (of_source h e text t) = of_source (inr (asks_all all words (Some asked) left refl)) e text t
+reported_all contents err err' all words (Some asked) status left (nothing h same) = nothing h same
+
+pub told_by_status : {E : Type 0} (from : Sources) (contents : E → Option (List ℕ)) (err err' : Counted E) (all words : List Text) (old new : Option (List ℕ)) (files files' : Option (List MadeFile)) (option : RegisterOption) (r : Request) (ended : Result Ending CommandFault)
+    → AreLeft all from.words words → Asks words r → option ≡ naming_option r → IfOk ended (HasEnded from words old new files files') → IsEndTold contents err err' option ended → IsReported contents err err' all (ended_status ended)
+told_by_status from contents err err' all words old new files files' option r (Ok ending.Done) left asks is h t = nothing (inl refl) t
+told_by_status from contents err err' all words old new files files' option r (Ok (ending.Stopped s)) left asks is h t = of_stop s refl t
+told_by_status from contents err err' all words old new files files' option r (Ok (ending.Found finding.One)) left asks is h t = nothing (inl refl) t
+told_by_status from contents err err' all words old new files files' option r (Ok (ending.Found finding.Unfinished)) left asks is h t = nothing (inr (inl refl)) t
+told_by_status from contents err err' all words old new files files' option r (Ok (ending.Found finding.Memory)) left asks is h t = of_fault faults.Memory refl t
+told_by_status from contents err err' all words old new files files' option r (Ok (ending.Found finding.Several)) left asks is h t = nothing (inr (inr refl)) t
+told_by_status from contents err err' all words old new files files' option r (Ok (ending.Wrong text)) left asks is (inl h) t = of_source (inl (begins_all all words from.words (codes "check") left h.begins)) refl (string_bytes text) t
+told_by_status from contents err err' all words old new files files' option r (Ok (ending.Wrong text)) left asks is (inr h) t = of_source (inr (asks_all all words from.words left h.whole)) refl (string_bytes text) t
+told_by_status from contents err err' all words old new files files' option r (Ok (ending.NoRegister name)) left asks is (inl h) t =
+    of_name options.Observe (begins_all all words from.words (codes "races") left h.begins) refl (string_bytes name)
+    (told_with contents err err' (string_bytes name) option options.Observe (is ∙ option_of_races words r asks h.begins) t)
+told_by_status from contents err err' all words old new files files' option r (Ok (ending.NoRegister name)) left asks is (inr h) t =
+    of_name options.Registers (begins_all all words from.words (codes "explain") left h.begins) refl (string_bytes name)
+    (told_with contents err err' (string_bytes name) option options.Registers (is ∙ option_of_explain words r asks h.begins) t)
+told_by_status from contents err err' all words old new files files' option r (Ok ending.Differ) left asks is h t = nothing (inr (inr refl)) t
+told_by_status from contents err err' all words old new files files' option r (Err f) left asks is h t = of_fault f refl t
 
 -- output that nothing was written to
 pub output_same : (known : Option (List ℕ)) → Keeps known known
@@ -502,11 +547,34 @@ output_same (Some xs) = refl
 
 -- requests, performed
 
-pub run_performed : (holding : Option (List ℕ → List ℕ)) (words : List Text) (run : RunRequest) (old new : Option (List ℕ)) (files files' : Option (List MadeFile)) (told : Option Stop)
-    → AsksRun words run → HasPrintedBy holding run.file.now run.seed run.options (option_map (λ path. path.now) run.journal) old new files files' told
-    → HasEnded holding words old new files files' (ending_of told)
-run_performed holding words run old new files files' None asks h = ran (run_of_words holding words run old new files files' None asks h)
-run_performed holding words run old new files files' (Some s) asks h = run_of_words holding words run old new files files' (Some s) asks h
+run_ended : (from : Sources) (words : List Text) (run : RunRequest) (old new : Option (List ℕ)) (files files' : Option (List MadeFile)) (e : Ending)
+    → AsksRun words run → HasRunTo from run.file.now run.seed run.options (option_map (λ path. path.now) run.journal) old new files files' e → HasEnded from words old new files files' e
+run_ended from words run old new files files' ending.Done asks h = ran (run_of_words from words run old new files files' None asks h)
+run_ended from words run old new files files' (ending.Stopped s) asks h = run_of_words from words run old new files files' (Some s) asks h
+run_ended from words run old new files files' (ending.Found found) asks h = absurd h
+run_ended from words run old new files files' (ending.Wrong text) asks h = inr (design_refused from words old new files files' (no_check words (codes "run") refl asks.begins) h)
+run_ended from words run old new files files' (ending.NoRegister name) asks h = absurd h
+run_ended from words run old new files files' ending.Differ asks h = absurd h
+
+search_ended : (from : Sources) (words : List Text) (races : RacesRequest) (old new : Option (List ℕ)) (files files' : Option (List MadeFile)) (e : Ending)
+    → AsksRaces words races → races.observed ≡ Lines → HasSearchedTo from races.file.now races.search_options (option_map (λ path. path.now) races.journals) old new files files' e
+    → HasEnded from words old new files files' e
+search_ended from words races old new files files' ending.Done asks lines h = absurd h
+search_ended from words races old new files files' (ending.Stopped s) asks lines h = absurd h
+search_ended from words races old new files files' (ending.Found found) asks lines h = search_of_words from words races old new files files' found asks lines h
+search_ended from words races old new files files' (ending.Wrong text) asks lines h = inr (design_refused from words old new files files' (no_check words (codes "races") refl asks.begins) h)
+search_ended from words races old new files files' (ending.NoRegister name) asks lines h = absurd h
+search_ended from words races old new files files' ending.Differ asks lines h = absurd h
+
+pub run_performed : (from : Sources) (words : List Text) (run : RunRequest) (old new : Option (List ℕ)) (files files' : Option (List MadeFile)) (r : Result Ending CommandFault) → AsksRun words run
+    → IfOk r (HasRunTo from run.file.now run.seed run.options (option_map (λ path. path.now) run.journal) old new files files') → IfOk r (HasEnded from words old new files files')
+run_performed from words run old new files files' (Ok e) asks h = run_ended from words run old new files files' e asks h
+run_performed from words run old new files files' (Err f) asks h = tt
+
+pub search_performed : (from : Sources) (words : List Text) (races : RacesRequest) (old new : Option (List ℕ)) (files files' : Option (List MadeFile)) (r : Result Ending CommandFault) → AsksRaces words races → races.observed ≡ Lines
+    → IfOk r (HasSearchedTo from races.file.now races.search_options (option_map (λ path. path.now) races.journals) old new files files') → IfOk r (HasEnded from words old new files files')
+search_performed from words races old new files files' (Ok e) asks lines h = search_ended from words races old new files files' e asks lines h
+search_performed from words races old new files files' (Err f) asks lines h = tt
 
 -- whether an end is that of what is done
 abbrev is_done : Ending → Bool
@@ -520,15 +588,15 @@ is_done ending.Differ = false
 not_done : ◌≡◌ {A = Bool} false true → ⊥
 not_done e = cc
 
-pub version_performed : (holding : Option (List ℕ → List ℕ)) (words : List Text) (old new : Option (List ℕ)) (files : Option (List MadeFile)) (r : Result Ending CommandFault) → Begins words (codes "--version")
-    → OnOk r (Appends old new version_text) → IfOk r (λ e. e ≡ ending.Done) → IfOk r (HasEnded holding words old new files files)
-version_performed holding words old new files (Ok ending.Done) begins shown is = versioned begins shown (kept files)
-version_performed holding words old new files (Ok (ending.Stopped s)) begins shown is = absurd (not_done (ap is_done is))
-version_performed holding words old new files (Ok (ending.Found found)) begins shown is = absurd (not_done (ap is_done is))
-version_performed holding words old new files (Ok (ending.Wrong text)) begins shown is = absurd (not_done (ap is_done is))
-version_performed holding words old new files (Ok (ending.NoRegister name)) begins shown is = absurd (not_done (ap is_done is))
-version_performed holding words old new files (Ok ending.Differ) begins shown is = absurd (not_done (ap is_done is))
-version_performed holding words old new files (Err f) begins shown is = tt
+pub version_performed : (from : Sources) (words : List Text) (old new : Option (List ℕ)) (files : Option (List MadeFile)) (r : Result Ending CommandFault) → Begins words (codes "--version")
+    → OnOk r (Appends old new version_text) → IfOk r (λ e. e ≡ ending.Done) → IfOk r (HasEnded from words old new files files)
+version_performed from words old new files (Ok ending.Done) begins shown is = versioned begins shown (kept files)
+version_performed from words old new files (Ok (ending.Stopped s)) begins shown is = absurd (not_done (ap is_done is))
+version_performed from words old new files (Ok (ending.Found found)) begins shown is = absurd (not_done (ap is_done is))
+version_performed from words old new files (Ok (ending.Wrong text)) begins shown is = absurd (not_done (ap is_done is))
+version_performed from words old new files (Ok (ending.NoRegister name)) begins shown is = absurd (not_done (ap is_done is))
+version_performed from words old new files (Ok ending.Differ) begins shown is = absurd (not_done (ap is_done is))
+version_performed from words old new files (Err f) begins shown is = tt
 
 -- whatever the fault
 pub if_err : {T E : Type 0} (P : E → Type 0) (r : Result T E) → ((e : E) → P e) → IfErr r P
@@ -550,44 +618,49 @@ if_read K words (Err f) h = λ e. h (of_source_or_journal f (source_status words
 six_not_one : (n : ℕ) → n ≡ 6 → n ≢ 1
 six_not_one n six one = omega (arith, six, one)
 
-pub left_unless_one : (holding : Option (List ℕ → List ℕ)) (words : List Text) (old new : Option (List ℕ)) (files files' : Option (List MadeFile)) (r : Result Ending CommandFault) → IfErr r (λ f. status_of f ≢ 1 → Keeps old new)
-    → IfErr r (λ f. status_of f ≢ 1 → KeepsFiles files files') → IfErr r (λ f. status_of f ≡ 6 → IsLeft holding words old new files files')
-left_unless_one holding words old new files files' (Ok e) h k = tt
-left_unless_one holding words old new files files' (Err f) h k = λ six. untouched (h (six_not_one (status_of f) six)) (k (six_not_one (status_of f) six))
+pub left_unless_one : (from : Sources) (words : List Text) (old new : Option (List ℕ)) (files files' : Option (List MadeFile)) (r : Result Ending CommandFault) → IfErr r (λ f. status_of f ≢ 1 → Keeps old new)
+    → IfErr r (λ f. status_of f ≢ 1 → KeepsFiles files files') → IfErr r (λ f. status_of f ≡ 6 → IsLeft from words old new files files')
+left_unless_one from words old new files files' (Ok e) h k = tt
+left_unless_one from words old new files files' (Err f) h k = λ six. untouched (h (six_not_one (status_of f) six)) (k (six_not_one (status_of f) six))
 
 -- what holds at any fault holds at one of these statuses
 pub at_any_fault : (P : Type 0) (r : Result Ending CommandFault) → OnErr r P → IfErr r (λ f. (status_of f ≡ 3) ⊎ (status_of f ≡ 5) → P)
 at_any_fault P (Ok e) h = tt
 at_any_fault P (Err f) h = λ source. h
 
-pub left_of_dump : (holding : Option (List ℕ → List ℕ)) (words : List Text) (known : Option (List ℕ)) (files files' : Option (List MadeFile)) (r : Result Ending CommandFault) → OnErr r (KeepsFiles files files')
-    → IfErr r (λ f. status_of f ≡ 6 → IsLeft holding words known known files files')
-left_of_dump holding words known files files' (Ok e) h = tt
-left_of_dump holding words known files files' (Err f) h = λ six. untouched (output_same known) h
+pub left_of_dump : (from : Sources) (words : List Text) (known : Option (List ℕ)) (files files' : Option (List MadeFile)) (r : Result Ending CommandFault) → OnErr r (KeepsFiles files files')
+    → IfErr r (λ f. status_of f ≡ 6 → IsLeft from words known known files files')
+left_of_dump from words known files files' (Ok e) h = tt
+left_of_dump from words known files files' (Err f) h = λ six. untouched (output_same known) h
 
-pub left_of_telling : (holding : Option (List ℕ → List ℕ)) (words : List Text) (old new : Option (List ℕ)) (files files' : Option (List MadeFile)) (r : Result Ending CommandFault) → Begins words (codes "explain") → KeepsFiles files files'
-    → IfErr r (λ f. status_of f ≡ 6 → IsLeft holding words old new files files')
-left_of_telling holding words old new files files' (Ok e) begins k = tt
-left_of_telling holding words old new files files' (Err f) begins k = λ six. interrupted begins k
+pub left_of_telling : (from : Sources) (words : List Text) (old new : Option (List ℕ)) (files files' : Option (List MadeFile)) (r : Result Ending CommandFault) → Begins words (codes "explain") → KeepsFiles files files'
+    → IfErr r (λ f. status_of f ≡ 6 → IsLeft from words old new files files')
+left_of_telling from words old new files files' (Ok e) begins k = tt
+left_of_telling from words old new files files' (Err f) begins k = λ six. interrupted begins k
 
-pub left_of_search : (holding : Option (List ℕ → List ℕ)) (words : List Text) (races : RacesRequest) (old new : Option (List ℕ)) (files files' : Option (List MadeFile)) → AsksRaces words races
-    → HasLeft holding races.file.now races.search_options (option_map (λ path. path.now) races.journals) old new files files' → IsLeft holding words old new files files'
-left_of_search holding words races old new files files' asks (inl (k, s)) = untouched k s
-left_of_search holding words races old new files files' asks (inr h) = begun (record {
+left_of_search : (from : Sources) (words : List Text) (races : RacesRequest) (old new : Option (List ℕ)) (files files' : Option (List MadeFile)) → AsksRaces words races
+    → HasLeft from races.file.now races.search_options (option_map (λ path. path.now) races.journals) old new files files' → IsLeft from words old new files files'
+left_of_search from words races old new files files' asks (inl (k, s)) = untouched k s
+left_of_search from words races old new files files' asks (inr h) = begun (record {
   begins = asks.begins;
   file = races.file.now;
   is_file = asks.is_races.file;
-  begun = subst (λ (path : Option (List ℕ)). HasBegun holding races.file.now (search_options_of (races_rows (drop 1 words))) path old new files files') (sym asks.is_races.journals)
-      (subst (λ (search_options : SearchOptions). HasBegun holding races.file.now search_options (option_map (λ path. path.now) races.journals) old new files files') asks.is_races.search_options h);
+  begun = subst (λ (path : Option (List ℕ)). HasBegun from races.file.now (search_options_of (races_rows (drop 1 words))) path old new files files') (sym asks.is_races.journals)
+      (subst (λ (search_options : SearchOptions). HasBegun from races.file.now search_options (option_map (λ path. path.now) races.journals) old new files files') asks.is_races.search_options h);
 })
 
-pub left_of_waves : (holding : Option (List ℕ → List ℕ)) (words : List Text) (races : RacesRequest) (old new : Option (List ℕ)) (files files' : Option (List MadeFile)) (r : Result Ending CommandFault) → AsksRaces words races
-    → IfErr r (λ f. status_of f ≡ 6 → HasLeftWaves holding races.file.now races.observed races.search_options (option_map (λ path. path.now) races.journals) old new files files')
-    → IfErr r (λ f. status_of f ≡ 6 → IsLeft holding words old new files files')
-left_of_waves holding words races old new files files' (Ok e) asks h = tt
-left_of_waves holding words races old new files files' (Err f) asks h = λ six. go (h six)
+pub search_left : (from : Sources) (words : List Text) (races : RacesRequest) (old new : Option (List ℕ)) (files files' : Option (List MadeFile)) (r : Result Ending CommandFault) → AsksRaces words races
+    → IfErr r (λ f. status_of f ≡ 6 → HasLeft from races.file.now races.search_options (option_map (λ path. path.now) races.journals) old new files files') → IfErr r (λ f. status_of f ≡ 6 → IsLeft from words old new files files')
+search_left from words races old new files files' (Ok e) asks h = tt
+search_left from words races old new files files' (Err f) asks h = λ six. left_of_search from words races old new files files' asks (h six)
+
+pub left_of_waves : (from : Sources) (words : List Text) (races : RacesRequest) (old new : Option (List ℕ)) (files files' : Option (List MadeFile)) (r : Result Ending CommandFault) → AsksRaces words races
+    → IfErr r (λ f. status_of f ≡ 6 → HasLeftWaves from races.file.now races.observed races.search_options (option_map (λ path. path.now) races.journals) old new files files')
+    → IfErr r (λ f. status_of f ≡ 6 → IsLeft from words old new files files')
+left_of_waves from words races old new files files' (Ok e) asks h = tt
+left_of_waves from words races old new files files' (Err f) asks h = λ six. go (h six)
   where
-    go : HasLeftWaves holding races.file.now races.observed races.search_options (option_map (λ path. path.now) races.journals) old new files files' → IsLeft holding words old new files files'
+    go : HasLeftWaves from races.file.now races.observed races.search_options (option_map (λ path. path.now) races.journals) old new files files' → IsLeft from words old new files files'
     go (inl (k, s)) = untouched k s
     go (inr left) = waves_begun (record {
       begins = asks.begins;
@@ -595,8 +668,8 @@ left_of_waves holding words races old new files files' (Err f) asks h = λ six. 
       is_file = asks.is_races.file;
       asked = races.observed;
       observed = asks.is_races.observed;
-      begun = subst (λ (path : Option (List ℕ)). HasBegunWaves holding races.file.now races.observed (search_options_of (races_rows (drop 1 words))) path old new files files') (sym asks.is_races.journals)
-          (subst (λ (search_options : SearchOptions). HasBegunWaves holding races.file.now races.observed search_options (option_map (λ path. path.now) races.journals) old new files files') asks.is_races.search_options left);
+      begun = subst (λ (path : Option (List ℕ)). HasBegunWaves from races.file.now races.observed (search_options_of (races_rows (drop 1 words))) path old new files files') (sym asks.is_races.journals)
+          (subst (λ (search_options : SearchOptions). HasBegunWaves from races.file.now races.observed search_options (option_map (λ path. path.now) races.journals) old new files files') asks.is_races.search_options left);
     })
 
 -- a journal is told up to its fault
@@ -614,10 +687,10 @@ pub one_only : (K : Type 0) (r : Result Ending CommandFault) → IfErr r (λ f. 
 one_only K (Ok e) h = tt
 one_only K (Err f) h = λ other. absurd (other h)
 
-pub check_performed : (holding : Option (List ℕ → List ℕ)) (words : List Text) (path : List ℕ) (old new : Option (List ℕ)) (files files' : Option (List MadeFile)) (r : Result Ending CommandFault)
-    → AsksCheckOf words path → IsRight holding path → KeepsFiles files files' → OnOk r (Appends old new (right_text path)) → IfOk r (λ e. e ≡ ending.Done)
-    → IfOk r (HasEnded holding words old new files files')
-check_performed holding words path old new files files' (Ok ending.Done) asks right keeps shown is = checked (record {
+pub check_performed : (from : Sources) (words : List Text) (path : List ℕ) (old new : Option (List ℕ)) (files files' : Option (List MadeFile)) (r : Result Ending CommandFault)
+    → AsksCheckOf words path → IsRight from path → KeepsFiles files files' → OnOk r (Appends old new (right_text path)) → IfOk r (λ e. e ≡ ending.Done)
+    → IfOk r (HasEnded from words old new files files')
+check_performed from words path old new files files' (Ok ending.Done) asks right keeps shown is = checked (record {
   begins = asks.begins;
   path = path;
   is_right = right;
@@ -625,16 +698,16 @@ check_performed holding words path old new files files' (Ok ending.Done) asks ri
   shown = shown;
   unsaved = keeps;
 })
-check_performed holding words path old new files files' (Ok (ending.Stopped s)) asks right keeps shown is = absurd (not_done (ap is_done is))
-check_performed holding words path old new files files' (Ok (ending.Found found)) asks right keeps shown is = absurd (not_done (ap is_done is))
-check_performed holding words path old new files files' (Ok (ending.Wrong text)) asks right keeps shown is = absurd (not_done (ap is_done is))
-check_performed holding words path old new files files' (Ok (ending.NoRegister name)) asks right keeps shown is = absurd (not_done (ap is_done is))
-check_performed holding words path old new files files' (Ok ending.Differ) asks right keeps shown is = absurd (not_done (ap is_done is))
-check_performed holding words path old new files files' (Err f) asks right keeps shown is = tt
+check_performed from words path old new files files' (Ok (ending.Stopped s)) asks right keeps shown is = absurd (not_done (ap is_done is))
+check_performed from words path old new files files' (Ok (ending.Found found)) asks right keeps shown is = absurd (not_done (ap is_done is))
+check_performed from words path old new files files' (Ok (ending.Wrong text)) asks right keeps shown is = absurd (not_done (ap is_done is))
+check_performed from words path old new files files' (Ok (ending.NoRegister name)) asks right keeps shown is = absurd (not_done (ap is_done is))
+check_performed from words path old new files files' (Ok ending.Differ) asks right keeps shown is = absurd (not_done (ap is_done is))
+check_performed from words path old new files files' (Err f) asks right keeps shown is = tt
 
-pub waves_performed : (holding : Option (List ℕ → List ℕ)) (words : List Text) (waves : WavesRequest) (known : Option (List ℕ)) (files files' : Option (List MadeFile)) → AsksWaves words waves
-    → HasDumped holding waves.file.now waves.journal.now waves.out.now files files' → HasWaves holding words known known files files'
-waves_performed holding words waves known files files' asks h = record {
+pub waves_performed : (from : Sources) (words : List Text) (waves : WavesRequest) (known : Option (List ℕ)) (files files' : Option (List MadeFile)) → AsksWaves words waves
+    → HasDumped from waves.file.now waves.journal.now waves.out.now files files' → HasWaves from words known known files files'
+waves_performed from words waves known files files' asks h = record {
   begins = asks.begins;
   path = waves.out.now;
   out = asks.is_waves.out;
@@ -646,9 +719,9 @@ waves_performed holding words waves known files files' asks h = record {
   unprinted = output_same known;
 }
 
-pub diff_performed : (holding : Option (List ℕ → List ℕ)) (words : List Text) (diff : DiffRequest) (old new : Option (List ℕ)) (files files' : Option (List MadeFile)) (same : Bool) → AsksDiff words diff
-    → HasComparedFiles holding diff.file.now diff.first.now diff.second.now diff.all_times old new same → KeepsFiles files files' → HasCompared holding words old new files files' same
-diff_performed holding words diff old new files files' same asks h k = record {
+pub diff_performed : (from : Sources) (words : List Text) (diff : DiffRequest) (old new : Option (List ℕ)) (files files' : Option (List MadeFile)) (same : Bool) → AsksDiff words diff
+    → HasComparedFiles from diff.file.now diff.first.now diff.second.now diff.all_times old new same → KeepsFiles files files' → HasCompared from words old new files files' same
+diff_performed from words diff old new files files' same asks h k = record {
   begins = asks.begins;
   file = diff.file.now;
   is_file = asks.is_diff.file;
@@ -656,14 +729,14 @@ diff_performed holding words diff old new files files' same asks h k = record {
   is_first = asks.is_diff.first;
   second = diff.second.now;
   is_second = asks.is_diff.second;
-  compared = subst (λ (all : Bool). HasComparedFiles holding diff.file.now diff.first.now diff.second.now all old new same) asks.is_diff.all_times h;
+  compared = subst (λ (all : Bool). HasComparedFiles from diff.file.now diff.first.now diff.second.now all old new same) asks.is_diff.all_times h;
   unsaved = k;
 }
 
-pub compared_ended : (holding : Option (List ℕ → List ℕ)) (words : List Text) (old new : Option (List ℕ)) (files files' : Option (List MadeFile)) (same : Bool) → HasCompared holding words old new files files' same
-    → HasEnded holding words old new files files' (compared_ending same)
-compared_ended holding words old new files files' true h = compared h
-compared_ended holding words old new files files' false h = h
+pub compared_ended : (from : Sources) (words : List Text) (old new : Option (List ℕ)) (files files' : Option (List MadeFile)) (same : Bool) → HasCompared from words old new files files' same
+    → HasEnded from words old new files files' (compared_ending same)
+compared_ended from words old new files files' true h = compared h
+compared_ended from words old new files files' false h = h
 
 -- a text, and then another
 pub appends_then : (a b c : Option (List ℕ)) (xs ys : List ℕ) → Appends a b xs → Appends b c ys → Appends a c (xs ++ ys)
@@ -674,13 +747,13 @@ appends_then (Some a) (Some b) (Some c) xs ys h g = g ∙ ap (λ t. t ++ ys) h �
 
 -- what a check has told
 
-pub right_if : {T : Type 0} (holding : Option (List ℕ → List ℕ)) (file : List ℕ) (told : Option T) → told ≡ None → HasChecked holding file told → IsRight holding file
-right_if holding file None e h = h
-right_if holding file (Some x) e h = cc
+pub right_if : {T : Type 0} (from : Sources) (file : List ℕ) (told : Option T) → told ≡ None → HasChecked from file told → IsRight from file
+right_if from file None e h = h
+right_if from file (Some x) e h = cc
 
-pub wrong_if : {T : Type 0} (holding : Option (List ℕ → List ℕ)) (file : List ℕ) (told : Option T) (x : T) → told ≡ Some x → HasChecked holding file told → IsWrong holding file
-wrong_if holding file None x e h = cc
-wrong_if holding file (Some y) x e h = h
+pub wrong_if : {T : Type 0} (from : Sources) (file : List ℕ) (told : Option T) (x : T) → told ≡ Some x → HasChecked from file told → IsWrong from file
+wrong_if from file None x e h = cc
+wrong_if from file (Some y) x e h = h
 
 -- words that make no request, and are no call for help
 pub wrong_usage : (words : List Text) (r : NoRequest) (text : _) → r ≡ no_request.Usage text → IsNoRequest words r → AreWrong words
@@ -704,6 +777,7 @@ explain_alone words (request.Check check) e asks begins = unlike (codes "check")
 explain_alone words (request.Explain explain) e asks begins = cc
 explain_alone words (request.Waves waves) e asks begins = unlike (codes "waves") (codes "explain") refl (sym asks.begins ∙ begins)
 explain_alone words (request.Diff diff) e asks begins = unlike (codes "diff") (codes "explain") refl (sym asks.begins ∙ begins)
+explain_alone words (request.Flatten flatten) e asks begins = unlike (codes "flatten") (codes "explain") refl (sym asks.begins ∙ begins)
 explain_alone words request.Version e asks begins = unlike (codes "--version") (codes "explain") refl (sym asks ∙ begins)
 
 -- words that begin as those of a check ask for nothing else
@@ -715,4 +789,5 @@ check_alone words (request.Check check) e asks begins = cc
 check_alone words (request.Explain explain) e asks begins = unlike (codes "explain") (codes "check") refl (sym asks.begins ∙ begins)
 check_alone words (request.Waves waves) e asks begins = unlike (codes "waves") (codes "check") refl (sym asks.begins ∙ begins)
 check_alone words (request.Diff diff) e asks begins = unlike (codes "diff") (codes "check") refl (sym asks.begins ∙ begins)
+check_alone words (request.Flatten flatten) e asks begins = unlike (codes "flatten") (codes "check") refl (sym asks.begins ∙ begins)
 check_alone words request.Version e asks begins = unlike (codes "--version") (codes "check") refl (sym asks ∙ begins)

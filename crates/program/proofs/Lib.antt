@@ -11,5 +11,6 @@ pub mod Knowing
 pub mod Sampled
 pub mod Searched
 pub mod Statuses
+pub mod Subjects
 pub mod StopsMore
 pub mod Waved

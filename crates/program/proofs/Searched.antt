@@ -1,5 +1,5 @@
 -- What a search has found, with what is claimed of it.
-use Rattle.std.proofs.Common.{◌≡◌, ◌⊎◌, ◌∙◌, ap, inl, inr, subst, sym, refl, ℕ, ◌+◌, ◌≤◌, ◌<◌, Bool, true, false, List, [], ◌++◌, length, Option, Some, None, option_map, Result, Ok, Err, IfErr, IfOk, IfSome, IsTrue, OnOk, arith}
+use Rattle.std.proofs.Common.{◌≡◌, ◌⊎◌, ◌∙◌, ap, inl, inr, subst, sym, refl, ℕ, ◌+◌, ◌≤◌, ◌<◌, Bool, true, false, List, [], ◌++◌, length, Option, Some, None, option_map, Result, Ok, Err, IfOk, IfSome, IsTrue, arith}
 use Rattle.std.specs.List.{All, AllPairs, Contains}
 use Rattle.model.specs.declared.entry.Entry.{Entry}
 use Rattle.model.specs.declared.end.End.{End}
@@ -26,8 +26,10 @@ use Rattle.verdict.specs.declared.claim.Claim.{Claim}
 use Rattle.verdict.specs.declared.claim.SampledOrders.{SampledOrders}
 use Rattle.verdict.specs.declared.claim.SearchStop.TheVariants.{Memory}
 use Rattle.std.specs.Io.KnownBytes.{Appends, Keeps}
-use Rattle.frontend.specs.Sources.{IsDesignOf}
-use Rattle.files.specs.Saved.{IsHeld, KeepsFiles, MadeFile, SavesAllWhereAsked, SavesSomeWhereAsked}
+use Rattle.locations.specs.declared.location.ProcessLocation.{ProcessLocation}
+use Rattle.program.specs.declared.subject.DesignSubject.{DesignSubject}
+use Rattle.program.specs.Subjects.{IsSubjectAt, Sources}
+use Rattle.files.specs.Saved.{KeepsFiles, MadeFile, SavesAllWhereAsked, SavesSomeWhereAsked}
 use Rattle.arguments.specs.declared.search_options.SearchOptions.{SearchOptions}
 use Rattle.program.specs.declared.finding.SearchFinding.{SearchFinding}
 use Rattle.program.specs.declared.fault.CommandFault.{CommandFault}
@@ -169,56 +171,62 @@ if_ok P Q (Ok x) step h = step x h
 if_ok P Q (Err e) step h = tt
 
 -- lines that tell races behind a text that is empty
-pub tells_alone : (source : List ℕ) (code : Compiled) (shown : List (Shown Entry End)) (prefix : Option (List ℕ)) (race_bounds : RaceBounds) (found : Found) (causes : List PartingRace) (empty lines : List ℕ) → empty ≡ []
-    → TellsBehind source code shown prefix race_bounds found causes empty lines → TellsRaces source code shown prefix race_bounds found causes lines
-tells_alone source code shown prefix race_bounds found causes empty lines none h = subst (TellsRaces source code shown prefix race_bounds found causes) (sym (h.new_is ∙ ap (λ l. l ++ h.lines) none)) h.tells
+pub tells_alone : (processes : List ProcessLocation) (source : List ℕ) (code : Compiled) (shown : List (Shown Entry End)) (prefix : Option (List ℕ)) (race_bounds : RaceBounds) (found : Found) (causes : List PartingRace) (empty lines : List ℕ) → empty ≡ []
+    → TellsBehind processes source code shown prefix race_bounds found causes empty lines → TellsRaces processes source code shown prefix race_bounds found causes lines
+tells_alone processes source code shown prefix race_bounds found causes empty lines none h = subst (TellsRaces processes source code shown prefix race_bounds found causes) (sym (h.new_is ∙ ap (λ l. l ++ h.lines) none)) h.tells
 
 -- lines that tell further races behind a text that is empty
-pub tells_more_alone : (source : List ℕ) (code : Compiled) (shown : List (Shown Entry End)) (prefix : Option (List ℕ)) (race_bounds : RaceBounds) (found : Found) (before : ℕ) (causes : Causes) (empty lines : List ℕ) → empty ≡ []
-    → TellsMoreBehind source code shown prefix race_bounds found before causes empty lines → TellsMore source code shown prefix race_bounds found before causes lines
-tells_more_alone source code shown prefix race_bounds found before causes empty lines none h = subst (TellsMore source code shown prefix race_bounds found before causes) (sym (h.new_is ∙ ap (λ l. l ++ h.lines) none)) h.tells
+pub tells_more_alone : (processes : List ProcessLocation) (source : List ℕ) (code : Compiled) (shown : List (Shown Entry End)) (prefix : Option (List ℕ)) (race_bounds : RaceBounds) (found : Found) (before : ℕ) (causes : Causes) (empty lines : List ℕ) → empty ≡ []
+    → TellsMoreBehind processes source code shown prefix race_bounds found before causes empty lines → TellsMore processes source code shown prefix race_bounds found before causes lines
+tells_more_alone processes source code shown prefix race_bounds found before causes empty lines none h = subst (TellsMore processes source code shown prefix race_bounds found before causes) (sym (h.new_is ∙ ap (λ l. l ++ h.lines) none)) h.tells
 
 -- what is told of texts behind a search: further races, and then what is said of the texts
-pub record IsToldBehind (source : List ℕ) (code : Compiled) (search_options : SearchOptions) (prefix : Option (List ℕ)) (races : NamedRaces) (claim : Claim) (before : Option ℕ) (shown : List (Shown Entry End)) (last : List ℕ) : Type 0 where
+pub record IsToldBehind (processes : List ProcessLocation) (source : List ℕ) (code : Compiled) (search_options : SearchOptions) (prefix : Option (List ℕ)) (races : NamedRaces) (claim : Claim) (before : Option ℕ) (shown : List (Shown Entry End)) (last : List ℕ) : Type 0 where
   pub more : List ℕ
-  pub is_more : IsToldMore source code search_options prefix races shown more
+  pub is_more : IsToldMore processes source code search_options prefix races shown more
   pub said : List ℕ
-  pub is_said : IsSaidLast source search_options prefix races.found.original.end claim before shown said
+  pub is_said : IsSaidLast processes search_options prefix races.found.original.end claim before shown said
   pub last_is : last ≡ more ++ said
 
 -- what was told before a search of the races that part texts
-pub early_causes : (source : List ℕ) (code : Compiled) (search_options : SearchOptions) (prefix : Option (List ℕ)) (early : ToldRaces) (a b : Option (List ℕ)) → ((first : List ℕ) × IsToldFirst source code search_options prefix early first × Appends a b first)
+pub early_causes : (processes : List ProcessLocation) (source : List ℕ) (code : Compiled) (search_options : SearchOptions) (prefix : Option (List ℕ)) (early : ToldRaces) (a b : Option (List ℕ)) → ((first : List ℕ) × IsToldFirst processes source code search_options prefix early first × Appends a b first)
     → AreCauses code (limits_in search_options) early.races.bounds early.races.found early.races.causes
-early_causes source code search_options prefix early a b (first, is_first, begins) = is_first.are_causes
+early_causes processes source code search_options prefix early a b (first, is_first, begins) = is_first.are_causes
 
-pub early_answered : (source : List ℕ) (code : Compiled) (search_options : SearchOptions) (prefix : Option (List ℕ)) (early : ToldRaces) (a b : Option (List ℕ)) → ((first : List ℕ) × IsToldFirst source code search_options prefix early first × Appends a b first)
+pub early_answered : (processes : List ProcessLocation) (source : List ℕ) (code : Compiled) (search_options : SearchOptions) (prefix : Option (List ℕ)) (early : ToldRaces) (a b : Option (List ℕ)) → ((first : List ℕ) × IsToldFirst processes source code search_options prefix early first × Appends a b first)
     → 1 < early.races.texts → HasAnswer early.races.found early.races.causes
-early_answered source code search_options prefix early a b (first, is_first, begins) many = is_first.answered (subst (λ (n : ℕ). 1 < n) is_first.texts many)
+early_answered processes source code search_options prefix early a b (first, is_first, begins) many = is_first.answered (subst (λ (n : ℕ). 1 < n) is_first.texts many)
 
-pub told_behind : (source : List ℕ) (code : Compiled) (search_options : SearchOptions) (prefix : Option (List ℕ)) (races : NamedRaces) (claim : Claim) (before : Option ℕ) (shown texts : List (Shown Entry End)) (more said lines last : List ℕ) → texts ≡ shown
-    → IsToldMore source code search_options prefix races texts more → IsSaidLast source search_options prefix races.found.original.end claim before shown said → lines ≡ said → last ≡ more ++ lines → IsToldBehind source code search_options prefix races claim before shown last
-told_behind source code search_options prefix races claim before shown texts more said lines last same told is_said are is = record {
+pub told_behind : (processes : List ProcessLocation) (source : List ℕ) (code : Compiled) (search_options : SearchOptions) (prefix : Option (List ℕ)) (races : NamedRaces) (claim : Claim) (before : Option ℕ) (shown texts : List (Shown Entry End)) (more said lines last : List ℕ) → texts ≡ shown
+    → IsToldMore processes source code search_options prefix races texts more → IsSaidLast processes search_options prefix races.found.original.end claim before shown said → lines ≡ said → last ≡ more ++ lines → IsToldBehind processes source code search_options prefix races claim before shown last
+told_behind processes source code search_options prefix races claim before shown texts more said lines last same told is_said are is = record {
   more = more;
-  is_more = subst (λ (ss : List (Shown Entry End)). IsToldMore source code search_options prefix races ss more) same told;
+  is_more = subst (λ (ss : List (Shown Entry End)). IsToldMore processes source code search_options prefix races ss more) same told;
   said = said;
   is_said = is_said;
   last_is = is ∙ ap (λ l. more ++ l) are;
 }
 
+-- so it is by the same processes and the same source
+pub more_by : (ps processes : List ProcessLocation) (text source : List ℕ) (code : Compiled) (search_options : SearchOptions) (prefix : Option (List ℕ)) (races : NamedRaces) (shown : List (Shown Entry End)) (more : List ℕ) → ps ≡ processes → text ≡ source
+    → IsToldMore ps text code search_options prefix races shown more → IsToldMore processes source code search_options prefix races shown more
+more_by ps processes text source code search_options prefix races shown more same alike told =
+    subst (λ (qs : List ProcessLocation). IsToldMore qs source code search_options prefix races shown more) same (subst (λ (t : List ℕ). IsToldMore ps t code search_options prefix races shown more) alike told)
+
 -- where no limit was met, nothing is told of how far a search came
-pub reach_untold : (source : List ℕ) (met found : Bool) (before : Option ℕ) (lines : List ℕ) → found ≡ met → found ≡ false → lines ≡ [] → IsReachTold source met before lines
-reach_untold source met found before lines is not none = subst (λ (b : Bool). IsReachTold source b before lines) (sym not ∙ is) none
+pub reach_untold : (processes : List ProcessLocation) (met found : Bool) (before : Option ℕ) (lines : List ℕ) → found ≡ met → found ≡ false → lines ≡ [] → IsReachTold processes met before lines
+reach_untold processes met found before lines is not none = subst (λ (b : Bool). IsReachTold processes b before lines) (sym not ∙ is) none
 
 -- nor is it where no time is known before which all orders were followed
-pub reach_unknown : (source : List ℕ) (met : Bool) (before : Option ℕ) (lines : List ℕ) → before ≡ None → lines ≡ [] → IsReachTold source met before lines
-reach_unknown source true before lines is none = subst (λ (o : Option ℕ). IsReachTold source true o lines) (sym is) none
-reach_unknown source false before lines is none = none
+pub reach_unknown : (processes : List ProcessLocation) (met : Bool) (before : Option ℕ) (lines : List ℕ) → before ≡ None → lines ≡ [] → IsReachTold processes met before lines
+reach_unknown processes true before lines is none = subst (λ (o : Option ℕ). IsReachTold processes true o lines) (sym is) none
+reach_unknown processes false before lines is none = none
 
 -- else it is
-pub reach_told : (source : List ℕ) (met found : Bool) (before : Option ℕ) (time : ℕ) (empty lines : List ℕ) → found ≡ met → found ≡ true → before ≡ Some time → empty ≡ [] → TellsReach source time empty lines → IsReachTold source met before lines
-reach_told source met found before time empty lines is met_it known none told =
-    subst (λ (b : Bool). IsReachTold source b before lines) (sym met_it ∙ is)
-    (subst (λ (o : Option ℕ). IsReachTold source true o lines) (sym known) (subst (λ (l : List ℕ). TellsReach source time l lines) none told))
+pub reach_told : (processes : List ProcessLocation) (met found : Bool) (before : Option ℕ) (time : ℕ) (empty lines : List ℕ) → found ≡ met → found ≡ true → before ≡ Some time → empty ≡ [] → TellsReach processes time empty lines → IsReachTold processes met before lines
+reach_told processes met found before time empty lines is met_it known none told =
+    subst (λ (b : Bool). IsReachTold processes b before lines) (sym met_it ∙ is)
+    (subst (λ (o : Option ℕ). IsReachTold processes true o lines) (sym known) (subst (λ (l : List ℕ). TellsReach processes time l lines) none told))
 
 -- what is said of texts behind a search
 pub told_last : (search_options : SearchOptions) (prefix : Option (List ℕ)) (end : End) (claim : Claim) (texts shown : List (Shown Entry End)) (ends : Bool) (endings : RunEndings) (first : List ℕ) (stops : List StopDescription) (empty middle line last : List ℕ) → shown ≡ texts → HaveSomeEnds shown ends
@@ -237,9 +245,9 @@ told_last search_options prefix end claim texts shown ends endings first stops e
       text_is = is ∙ (ap (λ (l : List ℕ). middle ++ l) until ∙ ap (λ (l : List ℕ). l ++ until_line search_options.until claim end) said);
     })
 
-found_behind : (source : List ℕ) (code : Compiled) (search_options : SearchOptions) (prefix : Option (List ℕ)) (early : ToldRaces) (claim : Claim) (before : Option ℕ) (shown : List (Shown Entry End)) (endless : Option (List Entry)) (last : List ℕ) → AreFound code search_options claim before shown endless
-    → Extends early.known.items shown → AreRacesKnown search_options.max_texts early.races.found early.known.items → IsToldBehind source code search_options prefix early.races claim before shown last → HasFound source code search_options prefix early last
-found_behind source code search_options prefix early claim before shown endless last are_found grown known is_last = record {
+found_behind : (processes : List ProcessLocation) (source : List ℕ) (code : Compiled) (search_options : SearchOptions) (prefix : Option (List ℕ)) (early : ToldRaces) (claim : Claim) (before : Option ℕ) (shown : List (Shown Entry End)) (endless : Option (List Entry)) (last : List ℕ) → AreFound code search_options claim before shown endless
+    → Extends early.known.items shown → AreRacesKnown search_options.max_texts early.races.found early.known.items → IsToldBehind processes source code search_options prefix early.races claim before shown last → HasFound processes source code search_options prefix early last
+found_behind processes source code search_options prefix early claim before shown endless last are_found grown known is_last = record {
   claim = claim;
   shown = shown;
   endless = endless;
@@ -255,34 +263,30 @@ found_behind source code search_options prefix early claim before shown endless 
 }
 
 -- a search that was told first and last, with the journals of what was found
-pub search_shown : (holding : Option (List ℕ → List ℕ)) (file : List ℕ) (source : List ℕ) (code : Compiled) (search_options : SearchOptions) (prefix : Option (List ℕ)) (early : ToldRaces) (claim : Claim) (before : Option ℕ) (shown : List (Shown Entry End)) (endless : Option (List Entry)) (a b c : Option (List ℕ))
-    (files tried files' : Option (List MadeFile)) (last : List ℕ) (found : SearchFinding) → IsHeld holding file source → IsDesignOf source code → ((first : List ℕ) × IsToldFirst source code search_options prefix early first × Appends a b first)
-    → AreFound code search_options claim before shown endless → Extends early.known.items shown → IsToldBehind source code search_options prefix early.races claim before shown last → Appends b c last → KeepsFiles files tried → SavesAllWhereAsked tried files' prefix (journals_of shown endless)
-    → found ≡ finding_of claim (length shown) (have_stops shown) early.refused → HasShown holding file search_options prefix a c files files' found
+pub search_shown : (from : Sources) (file : List ℕ) (subject : DesignSubject) (search_options : SearchOptions) (prefix : Option (List ℕ)) (early : ToldRaces) (claim : Claim) (before : Option ℕ) (shown : List (Shown Entry End)) (endless : Option (List Entry)) (a b c : Option (List ℕ))
+    (files tried files' : Option (List MadeFile)) (last : List ℕ) (found : SearchFinding) → IsSubjectAt from file subject → ((first : List ℕ) × IsToldFirst subject.processes.items subject.source.items subject.design search_options prefix early first × Appends a b first)
+    → AreFound subject.design search_options claim before shown endless → Extends early.known.items shown → IsToldBehind subject.processes.items subject.source.items subject.design search_options prefix early.races claim before shown last → Appends b c last → KeepsFiles files tried → SavesAllWhereAsked tried files' prefix (journals_of shown endless)
+    → found ≡ finding_of claim (length shown) (have_stops shown) early.refused → HasShown from file search_options prefix a c files files' found
 unfolding found_behind
-search_shown holding file source code search_options prefix early claim before shown endless a b c files tried files' last found held is_design (first, is_first, begins) are_found grown is_last ends kept saved is = record {
-  source = source;
-  held = held;
-  design = code;
-  is_design = is_design;
+search_shown from file subject search_options prefix early claim before shown endless a b c files tried files' last found is_subject (first, is_first, begins) are_found grown is_last ends kept saved is = record {
+  subject = subject;
+  is_subject = is_subject;
   early = early;
   first = first;
   is_first = is_first;
   last = last;
-  has_found = found_behind source code search_options prefix early claim before shown endless last are_found grown is_first.are_known.races is_last;
+  has_found = found_behind subject.processes.items subject.source.items subject.design search_options prefix early claim before shown endless last are_found grown is_first.are_known.races is_last;
   printed = appends_then a b c first last begins ends;
   saved = all_saved_on files tried files' prefix (journals_of shown endless) kept saved;
   finding = is;
 }
 
 -- a search that was told first, and didn't come further
-pub search_begun : (holding : Option (List ℕ → List ℕ)) (file : List ℕ) (source : List ℕ) (code : Compiled) (search_options : SearchOptions) (prefix : Option (List ℕ)) (early : ToldRaces) (a b : Option (List ℕ)) (files files' : Option (List MadeFile)) → IsHeld holding file source → IsDesignOf source code
-    → ((first : List ℕ) × IsToldFirst source code search_options prefix early first × Appends a b first) → SavesSomeWhereAsked files files' prefix (journals_of early.known.items None) → HasLeft holding file search_options prefix a b files files'
-search_begun holding file source code search_options prefix early a b files files' held is_design (first, is_first, begins) saved = inr (record {
-  source = source;
-  held = held;
-  design = code;
-  is_design = is_design;
+pub search_begun : (from : Sources) (file : List ℕ) (subject : DesignSubject) (search_options : SearchOptions) (prefix : Option (List ℕ)) (early : ToldRaces) (a b : Option (List ℕ)) (files files' : Option (List MadeFile)) → IsSubjectAt from file subject
+    → ((first : List ℕ) × IsToldFirst subject.processes.items subject.source.items subject.design search_options prefix early first × Appends a b first) → SavesSomeWhereAsked files files' prefix (journals_of early.known.items None) → HasLeft from file search_options prefix a b files files'
+search_begun from file subject search_options prefix early a b files files' is_subject (first, is_first, begins) saved = inr (record {
+  subject = subject;
+  is_subject = is_subject;
   early = early;
   first = first;
   is_first = is_first;
@@ -290,32 +294,28 @@ search_begun holding file source code search_options prefix early a b files file
 })
 
 -- a search that was told first and last, and whose journals may not all have been saved
-pub search_left : (holding : Option (List ℕ → List ℕ)) (file : List ℕ) (source : List ℕ) (code : Compiled) (search_options : SearchOptions) (prefix : Option (List ℕ)) (early : ToldRaces) (claim : Claim) (before : Option ℕ) (shown : List (Shown Entry End)) (endless : Option (List Entry)) (a b c : Option (List ℕ))
-    (files tried files' : Option (List MadeFile)) (last : List ℕ) → IsHeld holding file source → IsDesignOf source code → ((first : List ℕ) × IsToldFirst source code search_options prefix early first × Appends a b first)
-    → AreFound code search_options claim before shown endless → Extends early.known.items shown → IsToldBehind source code search_options prefix early.races claim before shown last → KeepsFiles files tried
-    → (Keeps b c × SavesSomeWhereAsked tried files' prefix (journals_of early.known.items None)) ⊎ (Appends b c last × SavesSomeWhereAsked tried files' prefix (journals_of shown endless)) → HasLeft holding file search_options prefix a c files files'
+pub search_left : (from : Sources) (file : List ℕ) (subject : DesignSubject) (search_options : SearchOptions) (prefix : Option (List ℕ)) (early : ToldRaces) (claim : Claim) (before : Option ℕ) (shown : List (Shown Entry End)) (endless : Option (List Entry)) (a b c : Option (List ℕ))
+    (files tried files' : Option (List MadeFile)) (last : List ℕ) → IsSubjectAt from file subject → ((first : List ℕ) × IsToldFirst subject.processes.items subject.source.items subject.design search_options prefix early first × Appends a b first)
+    → AreFound subject.design search_options claim before shown endless → Extends early.known.items shown → IsToldBehind subject.processes.items subject.source.items subject.design search_options prefix early.races claim before shown last → KeepsFiles files tried
+    → (Keeps b c × SavesSomeWhereAsked tried files' prefix (journals_of early.known.items None)) ⊎ (Appends b c last × SavesSomeWhereAsked tried files' prefix (journals_of shown endless)) → HasLeft from file search_options prefix a c files files'
 unfolding found_behind
-search_left holding file source code search_options prefix early claim before shown endless a b c files tried files' last held is_design (first, is_first, begins) are_found grown is_last kept (inl (same, saved)) = inr (record {
-  source = source;
-  held = held;
-  design = code;
-  is_design = is_design;
+search_left from file subject search_options prefix early claim before shown endless a b c files tried files' last is_subject (first, is_first, begins) are_found grown is_last kept (inl (same, saved)) = inr (record {
+  subject = subject;
+  is_subject = is_subject;
   early = early;
   first = first;
   is_first = is_first;
   left = inl (appends_kept a b c first begins same, some_saved_on files tried files' prefix (journals_of early.known.items None) kept saved);
 })
-search_left holding file source code search_options prefix early claim before shown endless a b c files tried files' last held is_design (first, is_first, begins) are_found grown is_last kept (inr (ends, saved)) = inr (record {
-  source = source;
-  held = held;
-  design = code;
-  is_design = is_design;
+search_left from file subject search_options prefix early claim before shown endless a b c files tried files' last is_subject (first, is_first, begins) are_found grown is_last kept (inr (ends, saved)) = inr (record {
+  subject = subject;
+  is_subject = is_subject;
   early = early;
   first = first;
   is_first = is_first;
   left = inr (record {
     last = last;
-    has_found = found_behind source code search_options prefix early claim before shown endless last are_found grown is_first.are_known.races is_last;
+    has_found = found_behind subject.processes.items subject.source.items subject.design search_options prefix early claim before shown endless last are_found grown is_first.are_known.races is_last;
     printed = appends_then a b c first last begins ends;
     saved = some_saved_on files tried files' prefix (journals_of shown endless) kept saved;
   });

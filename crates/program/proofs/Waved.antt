@@ -20,13 +20,13 @@ use Rattle.wavetexts.specs.Waves.{AreWavesOf, IsWaveOfText, wave_text_of}
 use Rattle.std.proofs.lemmas.List.Elements.{All-nil, All-cons, All-head, All-tail}
 use Rattle.arguments.specs.declared.search_options.SearchOptions.{SearchOptions}
 use Rattle.arguments.specs.declared.observed.Observed.{Observed}
-use Rattle.files.specs.Saved.{IsHeld, KeepsFiles, MadeFile, SavesAllWhereAsked, SavesSomeWhereAsked}
+use Rattle.files.specs.Saved.{KeepsFiles, MadeFile, SavesAllWhereAsked, SavesSomeWhereAsked}
 use Rattle.program.specs.FollowedOrders.{AreWavesFollowed}
 use Rattle.program.specs.Findings.{OnEvery, endless_number, endings_of, finding_of, first_text, have_stops, journals_of, limits_in, met_limit, search_stop_of, stops_from, unless_stopped}
-use Rattle.program.specs.Observed.{AreAllWaves, AreFoundWaves, AreRegistersAsked, AreRegistersOf, AreWavesSaid, HasFoundWaves, HasLeftWaves, HasNoRegister, HasObserved, HasArrangedTexts, HasSaidWaves, HasSavedWaves, IsLawfulWave, IsNameTold, IsObservedEnding, IsWaveClaimWithin, observer_of_registers, observes_all, texts_bound, wave_claim_of, before_line}
+use Rattle.program.specs.Observed.{AreAllWaves, AreFoundWaves, AreRegistersAsked, AreRegistersOf, AreWavesSaid, HasFoundWaves, HasLeftWaves, HasNoRegister, HasObservedTo, HasArrangedTexts, HasSaidWaves, HasSavedWaves, IsLawfulWave, IsNameTold, IsObservedEnding, IsWaveClaimWithin, observer_of_registers, observes_all, texts_bound, wave_claim_of, before_line}
 use Rattle.program.specs.declared.ending.Ending.{Ending}
 use Rattle.program.specs.declared.ending.Ending.TheVariants as ending
-use Rattle.frontend.specs.Sources.{IsDesignOf}
+use Rattle.program.specs.Subjects.{IsDesignIn, Sources}
 use Rattle.verdict.specs.WaveLines.{wave_verdict_text}
 use Rattle.verdict.specs.declared.endings.RunEndings.{RunEndings}
 use Rattle.verdict.specs.declared.stops.StopDescription.{StopDescription}
@@ -278,28 +278,29 @@ ending_on code asked search_options prefix old new a b c (ending.Wrong text) bef
 ending_on code asked search_options prefix old new a b c (ending.NoRegister name) before (has, same, files) = (has, same, kept_on a b c before files)
 ending_on code asked search_options prefix old new a b c ending.Differ before h = h
 
-pub observed_on : (holding : Option (List ℕ → List ℕ)) (file source : List ℕ) (code : Compiled) (asked : Observed) (search_options : SearchOptions) (prefix : Option (List ℕ)) (old new : Option (List ℕ)) (a b c : Option (List MadeFile)) (r : Result Ending CommandFault)
-    → IsHeld holding file source → IsDesignOf source code → KeepsFiles a b → IfOk r (IsObservedEnding code asked search_options prefix old new b c) → IfOk r (HasObserved holding file asked search_options prefix old new a c)
-observed_on holding file source code asked search_options prefix old new a b c (Ok e) held is before h = record {
-  source = source;
-  held = held;
-  design = code;
-  is_design = is;
-  is_ending = ending_on code asked search_options prefix old new a b c e before h;
-}
-observed_on holding file source code asked search_options prefix old new a b c (Err f) held is before h = tt
+observed_to : (from : Sources) (file : List ℕ) (code : Compiled) (asked : Observed) (search_options : SearchOptions) (prefix : Option (List ℕ)) (old new : Option (List ℕ)) (files files' : Option (List MadeFile)) (e : Ending) → IsDesignIn from file code
+    → IsObservedEnding code asked search_options prefix old new files files' e → HasObservedTo from file asked search_options prefix old new files files' e
+observed_to from file code asked search_options prefix old new files files' ending.Done is h = absurd h
+observed_to from file code asked search_options prefix old new files files' (ending.Stopped s) is h = absurd h
+observed_to from file code asked search_options prefix old new files files' (ending.Found f) is h = record { design = code; is_design = is; is_ending = h }
+observed_to from file code asked search_options prefix old new files files' (ending.Wrong text) is h = absurd h
+observed_to from file code asked search_options prefix old new files files' (ending.NoRegister name) is h = record { design = code; is_design = is; is_ending = h }
+observed_to from file code asked search_options prefix old new files files' ending.Differ is h = absurd h
 
-pub observed_left_on : (holding : Option (List ℕ → List ℕ)) (file source : List ℕ) (code : Compiled) (asked : Observed) (search_options : SearchOptions) (prefix : Option (List ℕ)) (old new : Option (List ℕ)) (a b c : Option (List MadeFile)) (r : Result Ending CommandFault)
-    → IsHeld holding file source → IsDesignOf source code → KeepsFiles a b → IfErr r (λ f. status_of f ≡ 6 → AreUntouched old new b c ⊎ HasSavedWaves code asked search_options prefix old new b c)
-    → IfErr r (λ f. status_of f ≡ 6 → HasLeftWaves holding file asked search_options prefix old new a c)
-observed_left_on holding file source code asked search_options prefix old new a b c (Ok e) held is before h = tt
-observed_left_on holding file source code asked search_options prefix old new a b c (Err f) held is before h = λ six. go (h six)
+pub observed_on : (from : Sources) (file : List ℕ) (code : Compiled) (asked : Observed) (search_options : SearchOptions) (prefix : Option (List ℕ)) (old new : Option (List ℕ)) (a b c : Option (List MadeFile)) (r : Result Ending CommandFault)
+    → IsDesignIn from file code → KeepsFiles a b → IfOk r (IsObservedEnding code asked search_options prefix old new b c) → IfOk r (HasObservedTo from file asked search_options prefix old new a c)
+observed_on from file code asked search_options prefix old new a b c (Ok e) is before h = observed_to from file code asked search_options prefix old new a c e is (ending_on code asked search_options prefix old new a b c e before h)
+observed_on from file code asked search_options prefix old new a b c (Err f) is before h = tt
+
+pub observed_left_on : (from : Sources) (file : List ℕ) (code : Compiled) (asked : Observed) (search_options : SearchOptions) (prefix : Option (List ℕ)) (old new : Option (List ℕ)) (a b c : Option (List MadeFile)) (r : Result Ending CommandFault)
+    → IsDesignIn from file code → KeepsFiles a b → IfErr r (λ f. status_of f ≡ 6 → AreUntouched old new b c ⊎ HasSavedWaves code asked search_options prefix old new b c)
+    → IfErr r (λ f. status_of f ≡ 6 → HasLeftWaves from file asked search_options prefix old new a c)
+observed_left_on from file code asked search_options prefix old new a b c (Ok e) is before h = tt
+observed_left_on from file code asked search_options prefix old new a b c (Err f) is before h = λ six. go (h six)
   where
-    go : AreUntouched old new b c ⊎ HasSavedWaves code asked search_options prefix old new b c → HasLeftWaves holding file asked search_options prefix old new a c
+    go : AreUntouched old new b c ⊎ HasSavedWaves code asked search_options prefix old new b c → HasLeftWaves from file asked search_options prefix old new a c
     go (inl (same, files)) = inl (same, kept_on a b c before files)
     go (inr h) = inr (record {
-      source = source;
-      held = held;
       design = code;
       is_design = is;
       saved = record {

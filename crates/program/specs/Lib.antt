@@ -9,3 +9,5 @@ pub mod AskedRegisters
 pub mod Printed
 pub mod Program
 pub mod StandardError
+pub mod Subjects
+pub mod Dumps

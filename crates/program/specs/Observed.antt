@@ -1,5 +1,5 @@
 -- What a search finds of runs, where something else is compared of them than their lines, in order, and what it leaves.
-use Rattle.std.specs.Prelude.{◌≡◌, ◌⊎◌, ℕ, ◌+◌, ◌*◌, ◌≤◌, min, nat_lt, if◌then◌else◌, Bool, true, false, List, [], ◌++◌, length, Option, Some, IfSome, option_map, string_bytes, None}
+use Rattle.std.specs.Prelude.{◌≡◌, ◌⊎◌, ℕ, ◌+◌, ◌*◌, ◌≤◌, min, nat_lt, if◌then◌else◌, Bool, true, false, List, [], ◌++◌, length, Option, Some, None, IfSome, IsSome, option_map, string_bytes}
 use Rattle.std.specs.Io.KnownBytes.{Appends, Keeps}
 use Rattle.std.specs.List.{All, AllPairs}
 use Rattle.model.specs.declared.entry.Entry.{Entry}
@@ -28,8 +28,8 @@ use Rattle.wavetexts.specs.declared.names.NamedRegisters.TheVariants as named
 use Rattle.arguments.specs.declared.observed.Observed.{Observed}
 use Rattle.arguments.specs.declared.observed.Observed.TheVariants as observed
 use Rattle.arguments.specs.declared.search_options.SearchOptions.{SearchOptions}
-use Rattle.files.specs.Saved.{IsHeld, KeepsFiles, MadeFile, SavesAllWhereAsked, SavesSomeWhereAsked}
-use Rattle.frontend.specs.Sources.{IsDesignOf}
+use Rattle.files.specs.Saved.{KeepsFiles, MadeFile, SavesAllWhereAsked, SavesSomeWhereAsked}
+use Rattle.program.specs.Subjects.{IsDesignIn, Sources}
 use Rattle.program.specs.declared.ending.Ending.{Ending}
 use Rattle.program.specs.declared.ending.Ending.TheVariants as ending
 use Rattle.program.specs.declared.finding.SearchFinding.{SearchFinding}
@@ -185,23 +185,28 @@ IsObservedEnding design asked search_options prefix old new files files' (ending
 IsObservedEnding design asked search_options prefix old new files files' (ending.NoRegister name) = HasNoRegister design asked (string_bytes name) × Keeps old new × KeepsFiles files files'
 IsObservedEnding design asked search_options prefix old new files files' ending.Differ = ⊥
 
--- so it is of the design that the source in a file describes
-pub record HasObserved (holding : Option (List ℕ → List ℕ)) (file : List ℕ) (asked : Observed) (search_options : SearchOptions) (prefix : Option (List ℕ)) (old new : Option (List ℕ)) (files files' : Option (List MadeFile)) (e : Ending) : Type 0 where
-  pub source : List ℕ
-  pub held : IsHeld holding file source
+-- so it is of the design that is asked for
+pub record HasObserved (from : Sources) (file : List ℕ) (asked : Observed) (search_options : SearchOptions) (prefix : Option (List ℕ)) (old new : Option (List ℕ)) (files files' : Option (List MadeFile)) (e : Ending) : Type 0 where
   pub design : Compiled
-  pub is_design : IsDesignOf source design
+  pub is_design : IsDesignIn from file design
   pub is_ending : IsObservedEnding design asked search_options prefix old new files files' e
 
--- A search of the design that the source in a file describes said all of its waves, and of their journals a beginning was saved.
-pub record HasBegunWaves (holding : Option (List ℕ → List ℕ)) (file : List ℕ) (asked : Observed) (search_options : SearchOptions) (prefix : Option (List ℕ)) (old new : Option (List ℕ)) (files files' : Option (List MadeFile)) : Type 0 where
-  pub source : List ℕ
-  pub held : IsHeld holding file source
+-- so it is; or a whole design is refused, and output and files are as they were
+abbrev pub HasObservedTo : Sources → List ℕ → Observed → SearchOptions → Option (List ℕ) → Option (List ℕ) → Option (List ℕ) → Option (List MadeFile) → Option (List MadeFile) → Ending → Type 0
+HasObservedTo from file asked search_options prefix old new files files' ending.Done = HasObserved from file asked search_options prefix old new files files' ending.Done
+HasObservedTo from file asked search_options prefix old new files files' (ending.Stopped s) = HasObserved from file asked search_options prefix old new files files' (ending.Stopped s)
+HasObservedTo from file asked search_options prefix old new files files' (ending.Found f) = HasObserved from file asked search_options prefix old new files files' (ending.Found f)
+HasObservedTo from file asked search_options prefix old new files files' (ending.Wrong text) = IsSome from.words × Keeps old new × KeepsFiles files files'
+HasObservedTo from file asked search_options prefix old new files files' (ending.NoRegister name) = HasObserved from file asked search_options prefix old new files files' (ending.NoRegister name)
+HasObservedTo from file asked search_options prefix old new files files' ending.Differ = HasObserved from file asked search_options prefix old new files files' ending.Differ
+
+-- A search of the design that is asked for said all of its waves, and of their journals a beginning was saved.
+pub record HasBegunWaves (from : Sources) (file : List ℕ) (asked : Observed) (search_options : SearchOptions) (prefix : Option (List ℕ)) (old new : Option (List ℕ)) (files files' : Option (List MadeFile)) : Type 0 where
   pub design : Compiled
-  pub is_design : IsDesignOf source design
+  pub is_design : IsDesignIn from file design
   pub saved : HasSavedWaves design asked search_options prefix old new files files'
 
 -- a search left nothing, or came so far
-abbrev pub HasLeftWaves : Option (List ℕ → List ℕ) → List ℕ → Observed → SearchOptions → Option (List ℕ) → Option (List ℕ) → Option (List ℕ) → Option (List MadeFile) → Option (List MadeFile) → Type 0
-HasLeftWaves holding file asked search_options prefix old new files files' =
-    (Keeps old new × KeepsFiles files files') ⊎ HasBegunWaves holding file asked search_options prefix old new files files'
+abbrev pub HasLeftWaves : Sources → List ℕ → Observed → SearchOptions → Option (List ℕ) → Option (List ℕ) → Option (List ℕ) → Option (List MadeFile) → Option (List MadeFile) → Type 0
+HasLeftWaves from file asked search_options prefix old new files files' =
+    (Keeps old new × KeepsFiles files files') ⊎ HasBegunWaves from file asked search_options prefix old new files files'

@@ -4,7 +4,7 @@
 ghost use Rattle.std.specs.Prelude.{◌≡◌, IfErr, IfOk, List, OnOk, Option, Some, option_map, ℕ};
 ghost use Rattle.std.specs.Io.KnownBytes.{Keeps};
 ghost use Rattle.explain.specs.Wanted.{wanted_registers};
-ghost use Rattle.frontend.specs.Sources.{IsDesignOf};
+ghost use Rattle.program.specs.Subjects.{IsExplainedAt, Sources, sources_with};
 ghost use Rattle.journal.specs.Counted.{held};
 ghost use Rattle.files.specs.Saved.{IsHeld, IsOpened, KeepsFiles};
 ghost use Rattle.program.specs.Presentations.{presentation_for, style_for};
@@ -15,12 +15,13 @@ ghost use Rattle.program.specs.Program.{explain_fault, status_of};
 use crate::ending::Ending;
 use crate::fault::CommandFault;
 use crate::observed::no_register;
-use arguments::ExplainRequest;
+use crate::subject::{AskedSource, Judged, judged_subject, read_sources};
+use arguments::{DesignWords, ExplainRequest};
 use design::{Design, RegId};
-use explain::{EntryStyle, ExplainFault, ExplainedSource, Presentation, explain};
-use files::{Files, open_file, read_file, send_off};
-use frontend::read_design;
+use explain::{EntryStyle, ExplainFault, ExplainedDesign, Presentation, explain};
+use files::{Files, open_file, send_off};
 use journal::Counted;
+use locations::ProcessLocation;
 use progress::Progress;
 use replay::BytesFault;
 use std::alloc::{AllocError, Global};
@@ -31,21 +32,28 @@ use wavetexts::{NamedRegisters, registers_named};
 pub fn explain_journal<'a, F: Files, O: Write>(
     alloc: Global,
     request: &ExplainRequest<'a>,
+    design_words: Option<&'a DesignWords<'a>>,
     files: &mut F,
     out: &mut O,
 ) -> Result<Ending, CommandFault<'a>>
-    ensures ended { IfOk result (HasExplainedTo (F.held files.old) request.now.file.now request.now.journal.now (option_map (λ names. names.now) request.now.registers) (presentation_for request.now) (O.contents out.old) (O.contents out.new)) }
-    ensures refused { IfErr result (λ fault. status_of fault ≡ 5 → HasExplainedSome (F.held files.old) request.now.file.now request.now.journal.now (option_map (λ names. names.now) request.now.registers) (presentation_for request.now) (O.contents out.old) (O.contents out.new) fault) }
+    ensures ended { IfOk result (HasExplainedTo (sources_with (F.held files.old) (option_map (λ w. w.now) design_words.entry)) request.now.file.now request.now.journal.now (option_map (λ names. names.now) request.now.registers) (presentation_for request.now) (O.contents out.old) (O.contents out.new)) }
+    ensures refused { IfErr result (λ fault. status_of fault ≡ 5 → HasExplainedSome (sources_with (F.held files.old) (option_map (λ w. w.now) design_words.entry)) request.now.file.now request.now.journal.now (option_map (λ names. names.now) request.now.registers) (presentation_for request.now) (O.contents out.old) (O.contents out.new) fault) }
     ensures nothing { IfErr result (λ fault. status_of fault ≡ 3 → Keeps (O.contents out.old) (O.contents out.new)) }
     ensures unsaved { KeepsFiles (F.made files.old) (F.made files.new) }
 {
-    let source = read_file(alloc, request.file, files)?;
+    let asked = AskedSource {
+        file: request.file,
+        words: design_words,
+    };
+    let texts = read_sources(alloc, asked, files)?;
     let mut journal = Counted::new(open_file(request.journal, files)?);
-    let text = source.as_slice();
-    let design = read_design(alloc, text)?;
-    let subject = ExplainedSource {
-        source: text,
-        design: &design,
+    let found = match judged_subject(alloc, texts, files)? {
+        Judged::Taken(found) => found,
+        Judged::Wrong(text) => return Ok(Ending::Wrong(text)),
+    };
+    let subject = ExplainedDesign {
+        processes: found.processes.as_slice(),
+        design: &found.design,
         presentation: asked_presentation(request),
         registers: None,
     };
@@ -56,22 +64,21 @@ pub fn explain_journal<'a, F: Files, O: Write>(
 /// Tells a journal that is left to read, of the registers alone that a request names, where it names any; or a name that no register has.
 fn explain_asked<R: Read, O: Write, P: Progress>(
     alloc: Global,
-    subject: ExplainedSource<'_>,
+    subject: ExplainedDesign<'_>,
     request: &ExplainRequest<'_>,
     journal: &mut Counted<R>,
     out: &mut O,
     progress: &P,
 ) -> Result<Ending, CommandFault<'static>>
-    requires design { IsDesignOf subject.source.now subject.design.now }
     requires presented { subject.presentation ≡ presentation_for request.now }
-    ensures ended { (holding : Option (List ℕ → List ℕ)) (file journal_file : List ℕ) → IsHeld holding file subject.entry.source.now → IsOpened holding journal_file (R.remaining (held journal.old)) → IfOk result (HasExplainedTo holding file journal_file (option_map (λ names. names.now) request.now.registers) (presentation_for request.now) (O.contents out.old) (O.contents out.new)) }
-    ensures refused { (holding : Option (List ℕ → List ℕ)) (file journal_file : List ℕ) → IsHeld holding file subject.entry.source.now → IsOpened holding journal_file (R.remaining (held journal.old)) → IfErr result (λ fault. status_of fault ≡ 5 → HasExplainedSome holding file journal_file (option_map (λ names. names.now) request.now.registers) (presentation_for request.now) (O.contents out.old) (O.contents out.new) fault) }
+    ensures ended { (from : Sources) (file journal_file : List ℕ) → IsExplainedAt from file subject.entry → IsOpened from.held journal_file (R.remaining (held journal.old)) → IfOk result (HasExplainedTo from file journal_file (option_map (λ names. names.now) request.now.registers) (presentation_for request.now) (O.contents out.old) (O.contents out.new)) }
+    ensures refused { (from : Sources) (file journal_file : List ℕ) → IsExplainedAt from file subject.entry → IsOpened from.held journal_file (R.remaining (held journal.old)) → IfErr result (λ fault. status_of fault ≡ 5 → HasExplainedSome from file journal_file (option_map (λ names. names.now) request.now.registers) (presentation_for request.now) (O.contents out.old) (O.contents out.new) fault) }
     ensures nothing { IfErr result (λ fault. status_of fault ≡ 3 → Keeps (O.contents out.old) (O.contents out.new)) }
 {
     let asked = asked_registers(alloc, subject.design, request.registers)?;
     match asked {
         AskedRegisters::Every => {
-            let every = ExplainedSource {
+            let every = ExplainedDesign {
                 registers: None,
                 ..subject
             };
@@ -79,7 +86,7 @@ fn explain_asked<R: Read, O: Write, P: Progress>(
         }
         AskedRegisters::Named(registers) => {
             let named = told_alone(
-                subject.source,
+                subject.processes,
                 subject.design,
                 subject.presentation,
                 registers.as_slice(),
@@ -92,18 +99,18 @@ fn explain_asked<R: Read, O: Write, P: Progress>(
 
 /// The design of a source, with how a journal is told on it, and the registers of which it is told alone.
 fn told_alone<'s>(
-    source: &'s [u8],
+    processes: &'s [ProcessLocation],
     design: &'s Design,
     presentation: Presentation,
     registers: &'s [RegId],
-) -> ExplainedSource<'s>
-    ensures source { result.source.now ≡ source.entry.now }
+) -> ExplainedDesign<'s>
+    ensures processes { result.processes.now ≡ processes.entry.now }
     ensures design { result.design.now ≡ design.entry.now }
     ensures presentation { result.presentation ≡ presentation }
     ensures registers { wanted_registers result.registers ≡ Some registers.entry.now }
 {
-    ExplainedSource {
-        source,
+    ExplainedDesign {
+        processes,
         design,
         presentation,
         registers: Some(registers),
@@ -158,14 +165,13 @@ fn asked_presentation(request: &ExplainRequest<'_>) -> Presentation
 /// Tells a journal that is left to read on the design of a source.
 fn explain_bytes<R: Read, O: Write, P: Progress>(
     alloc: Global,
-    subject: ExplainedSource<'_>,
+    subject: ExplainedDesign<'_>,
     journal: &mut Counted<R>,
     out: &mut O,
     progress: &P,
 ) -> Result<Ending, CommandFault<'static>>
-    requires { IsDesignOf subject.source.now subject.design.now }
-    ensures ended { (holding : Option (List ℕ → List ℕ)) (file journal_file : List ℕ) (names : Option (List ℕ)) → IsHeld holding file subject.entry.source.now → IsOpened holding journal_file (R.remaining (held journal.old)) → AreAskedFor subject.entry.design.now names (wanted_registers subject.entry.registers) → IfOk result (HasExplainedTo holding file journal_file names subject.entry.presentation (O.contents out.old) (O.contents out.new)) }
-    ensures refused { (holding : Option (List ℕ → List ℕ)) (file journal_file : List ℕ) (names : Option (List ℕ)) → IsHeld holding file subject.entry.source.now → IsOpened holding journal_file (R.remaining (held journal.old)) → AreAskedFor subject.entry.design.now names (wanted_registers subject.entry.registers) → IfErr result (λ fault. status_of fault ≡ 5 → HasExplainedSome holding file journal_file names subject.entry.presentation (O.contents out.old) (O.contents out.new) fault) }
+    ensures ended { (from : Sources) (file journal_file : List ℕ) (names : Option (List ℕ)) → IsExplainedAt from file subject.entry → IsOpened from.held journal_file (R.remaining (held journal.old)) → AreAskedFor subject.entry.design.now names (wanted_registers subject.entry.registers) → IfOk result (HasExplainedTo from file journal_file names subject.entry.presentation (O.contents out.old) (O.contents out.new)) }
+    ensures refused { (from : Sources) (file journal_file : List ℕ) (names : Option (List ℕ)) → IsExplainedAt from file subject.entry → IsOpened from.held journal_file (R.remaining (held journal.old)) → AreAskedFor subject.entry.design.now names (wanted_registers subject.entry.registers) → IfErr result (λ fault. status_of fault ≡ 5 → HasExplainedSome from file journal_file names subject.entry.presentation (O.contents out.old) (O.contents out.new) fault) }
     ensures nothing { IfErr result (λ fault. status_of fault ≡ 3 → Keeps (O.contents out.old) (O.contents out.new)) }
 {
     let told = explain(alloc, subject, journal, out, progress);

@@ -10,9 +10,10 @@ ghost use Rattle.lawful.specs.ArrangedNodes.{registers_seen};
 ghost use Rattle.wavetexts.specs.Waves.{IsWaveOfText};
 ghost use Rattle.arguments.specs.Options.{CanSearch};
 ghost use Rattle.arguments.specs.declared.observed.Observed.TheVariants.{Lines};
+ghost use Rattle.program.specs.Subjects.{sources_with};
 ghost use Rattle.files.specs.Saved.{KeepsFiles, LeadsElsewhere, journal_path};
 ghost use Rattle.program.specs.Findings.{AreFew};
-ghost use Rattle.program.specs.Observed.{AreFoundWaves, AreRegistersAsked, AreRegistersOf, AreWavesSaid, HasLeftWaves, HasObserved, IsNameTold, IsObservedEnding, HasSavedWaves, most_texts, observer_of_registers, observes_all, texts_bound, wave_claim_of, before_line, followed_at_limit};
+ghost use Rattle.program.specs.Observed.{AreFoundWaves, AreRegistersAsked, AreRegistersOf, AreWavesSaid, HasLeftWaves, HasObservedTo, IsNameTold, IsObservedEnding, HasSavedWaves, before_line, followed_at_limit, most_texts, observer_of_registers, observes_all, texts_bound, wave_claim_of};
 ghost use Rattle.program.specs.Printed.{AreUntouched};
 ghost use Rattle.program.specs.Program.{status_of};
 
@@ -26,12 +27,12 @@ use crate::searching::{
     tell_texts,
 };
 use crate::stops::stops_of;
+use crate::subject::{AskedSource, Judged, judged_design, read_sources, spare_first_of};
 use crate::texts::{FoundTexts, ToldTexts};
-use arguments::{Observed, RacesRequest, SearchOptions};
+use arguments::{DesignWords, Observed, RacesRequest, SearchOptions};
 use design::{Design, RegId};
 use explore::{Explored, Shown, Stopped};
-use files::{Files, read_file, spare_first, try_first};
-use frontend::read_design;
+use files::{Files, try_first};
 use lawful::observed_orders;
 use looseruns::observed_end::ObservedEnd;
 use model::end::{End, Limits};
@@ -55,22 +56,29 @@ const MOST_TEXTS: u64 = 4_294_967_295;
 pub fn search_waves<'a, F: Files, O: Write>(
     alloc: Global,
     request: &RacesRequest<'a>,
+    design_words: Option<&'a DesignWords<'a>>,
     files: &mut F,
     out: &mut O,
 ) -> Result<Ending, CommandFault<'a>>
     requires { request.now.observed ≢ Lines }
-    ensures ended { IfOk result (HasObserved (F.held files.old) request.now.file.now request.now.observed request.now.search_options (option_map (λ path. path.now) request.now.journals)
+    ensures ended { IfOk result (HasObservedTo (sources_with (F.held files.old) (option_map (λ w. w.now) design_words.entry)) request.now.file.now request.now.observed request.now.search_options (option_map (λ path. path.now) request.now.journals)
         (O.contents out.old) (O.contents out.new) (F.made files.old) (F.made files.new)) }
     ensures nothing { IfErr result (λ fault. (status_of fault ≡ 3) ⊎ (status_of fault ≡ 5) → Keeps (O.contents out.old) (O.contents out.new)) }
     ensures unsaved { IfErr result (λ fault. (status_of fault ≡ 3) ⊎ (status_of fault ≡ 5) → KeepsFiles (F.made files.old) (F.made files.new)) }
-    ensures wanting { IfErr result (λ fault. status_of fault ≡ 6 → HasLeftWaves (F.held files.old) request.now.file.now request.now.observed request.now.search_options (option_map (λ path. path.now) request.now.journals)
+    ensures wanting { IfErr result (λ fault. status_of fault ≡ 6 → HasLeftWaves (sources_with (F.held files.old) (option_map (λ w. w.now) design_words.entry)) request.now.file.now request.now.observed request.now.search_options (option_map (λ path. path.now) request.now.journals)
         (O.contents out.old) (O.contents out.new) (F.made files.old) (F.made files.new)) }
     ensures spared { OnOk result (LeadsElsewhere (F.alike files.old) request.now.file.now (option_map (λ prefix. journal_path prefix.now 1) request.now.journals)) }
 {
-    spare_first(alloc, request.file, request.journals, files)?;
-    let source = read_file(alloc, request.file, files)?;
-    let text = source.as_slice();
-    let design = read_design(alloc, text)?;
+    let asked = AskedSource {
+        file: request.file,
+        words: design_words,
+    };
+    spare_first_of(alloc, asked, request.journals, files)?;
+    let texts = read_sources(alloc, asked, files)?;
+    let design = match judged_design(alloc, texts, files)? {
+        Judged::Taken(design) => design,
+        Judged::Wrong(text) => return Ok(Ending::Wrong(text)),
+    };
     observe_design(alloc, &design, request, files, out)
 }
 

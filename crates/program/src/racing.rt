@@ -13,6 +13,7 @@ ghost use Rattle.program.specs.Program.{status_of};
 
 use crate::fault::CommandFault;
 use crate::known::{KnownOrders, known_texts};
+use crate::subject::DesignSubject;
 use arguments::{RacesRequest, SearchOptions};
 use causes::{CauseSearch, Causes, PartingRace};
 use conflicts::RaceBounds;
@@ -56,16 +57,16 @@ pub struct ToldRaces {
 /// Looks for races and tells them: first those that part texts which are known.
 pub fn tell_races<O: Write, P: Progress>(
     alloc: Global,
-    source: &[u8],
-    design: &Design,
+    subject: &DesignSubject,
     request: &RacesRequest<'_>,
     out: &mut O,
     progress: &P,
 ) -> Result<ToldRaces, CommandFault<'static>>
-    ensures told { IfOk result (λ early. (first : List ℕ) × IsToldFirst source.now design.now request.now.search_options (option_map (λ path. path.now) request.now.journals) early first × Appends (O.contents out.old) (O.contents out.new) first) }
+    ensures told { IfOk result (λ early. (first : List ℕ) × IsToldFirst subject.now.processes.items subject.now.source.items subject.now.design request.now.search_options (option_map (λ path. path.now) request.now.journals) early first × Appends (O.contents out.old) (O.contents out.new) first) }
     ensures fault { IfErr result (λ fault. (status_of fault ≡ 1) ⊎ (status_of fault ≡ 6)) }
     ensures untold { IfErr result (λ fault. status_of fault ≡ 6 → Keeps (O.contents out.old) (O.contents out.new)) }
 {
+    let design = &subject.design;
     let limits = Limits {
         until: request.search_options.until,
         max_entries: request.search_options.max_entries,
@@ -86,7 +87,8 @@ pub fn tell_races<O: Write, P: Progress>(
     };
     let causes = first_causes(search, known.as_slice(), progress);
     let names = RaceNames {
-        source,
+        processes: subject.processes.as_slice(),
+        source: subject.source.as_slice(),
         design,
         race_bounds,
         prefix: request.journals,
@@ -136,7 +138,7 @@ pub fn more_lines<P: Progress>(
     requires bounds { names.now.race_bounds ≡ races.bounds }
     requires are { AreCauses names.now.design.now (limits_in search_options) races.bounds races.found races.causes }
     requires answered { 1 < races.texts → HasAnswer races.found races.causes }
-    ensures { IfOk result (λ lines. IsToldMore names.entry.now.source.now names.entry.now.design.now search_options (option_map (λ path. path.now) names.entry.now.prefix) races names.entry.now.shown.now lines.items) }
+    ensures { IfOk result (λ lines. IsToldMore names.entry.now.processes.now names.entry.now.source.now names.entry.now.design.now search_options (option_map (λ path. path.now) names.entry.now.prefix) races names.entry.now.shown.now lines.items) }
 {
     let NamedRaces {
         bounds,
@@ -157,6 +159,7 @@ pub fn more_lines<P: Progress>(
     let before = causes.causes.len();
     let all = all_causes(search, causes, names.shown, texts, progress);
     let here = RaceNames {
+        processes: names.processes,
         source: names.source,
         design: names.design,
         race_bounds: bounds,
@@ -176,7 +179,7 @@ fn further_lines<'a>(
     causes: &'a Causes,
 ) -> Result<Vec<u8>, AllocError>
     requires { told ≤ length causes.now.causes.items }
-    ensures { IfOk result (λ lines. TellsMore names.entry.now.source.now names.entry.now.design.now names.entry.now.shown.now (option_map (λ path. path.now) names.entry.now.prefix) names.entry.now.race_bounds found.entry.now told causes.entry.now lines.items) }
+    ensures { IfOk result (λ lines. TellsMore names.entry.now.processes.now names.entry.now.source.now names.entry.now.design.now names.entry.now.shown.now (option_map (λ path. path.now) names.entry.now.prefix) names.entry.now.race_bounds found.entry.now told causes.entry.now lines.items) }
 {
     let mut lines = Vec::new(alloc);
     push_more_races(alloc, &mut lines, names, found, told, causes)?;
@@ -234,7 +237,7 @@ fn race_lines<'a>(
     found: &'a Found,
     causes: &'a [PartingRace],
 ) -> Result<Vec<u8>, AllocError>
-    ensures { IfOk result (λ lines. TellsRaces names.entry.now.source.now names.entry.now.design.now names.entry.now.shown.now (option_map (λ path. path.now) names.entry.now.prefix) names.entry.now.race_bounds found.entry.now causes.entry.now lines.items) }
+    ensures { IfOk result (λ lines. TellsRaces names.entry.now.processes.now names.entry.now.source.now names.entry.now.design.now names.entry.now.shown.now (option_map (λ path. path.now) names.entry.now.prefix) names.entry.now.race_bounds found.entry.now causes.entry.now lines.items) }
 {
     let mut lines = Vec::new(alloc);
     push_races(alloc, &mut lines, names, found, causes)?;

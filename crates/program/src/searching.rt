@@ -7,16 +7,17 @@ ghost use Rattle.std.specs.Io.KnownBytes.{Appends, Keeps};
 ghost use Rattle.sharing.specs.Parts.{Extends};
 ghost use Rattle.explore.specs.Search.{AreDistinct};
 ghost use Rattle.std.specs.List.{All, AllPairs};
-ghost use Rattle.frontend.specs.Sources.{IsDesignOf};
+ghost use Rattle.program.specs.Subjects.{IsSubjectAt, Sources, sources_with};
 ghost use Rattle.program.specs.Findings.{AreFound, HaveSomeEnds, IsLawfulShown, claim_of, finding_of, first_text, has_most, have_stops, is_cut, is_limit, journals_of, limits_in, met_limit, or_full, search_stop_of, unless_stopped, until_line, wants_until};
 ghost use Rattle.arguments.specs.Options.{CanSearch};
 ghost use Rattle.program.specs.Program.{status_of};
-ghost use Rattle.program.specs.Printed.{HasLeft, HasShown, IsToldLast, IsReachTold, IsSaidLast};
+ghost use Rattle.program.specs.Printed.{HasLeft, HasSearchedTo, HasShown, IsReachTold, IsSaidLast, IsToldLast};
 ghost use Rattle.files.specs.FileStatuses.{IsFileStatus, file_status};
-ghost use Rattle.files.specs.Saved.{IsHeld, KeepsFiles, LeadsElsewhere, MadeFile, SavesAllWhereAsked, SavesSomeWhereAsked, journal_path};
+ghost use Rattle.files.specs.Saved.{KeepsFiles, LeadsElsewhere, MadeFile, SavesAllWhereAsked, SavesSomeWhereAsked, journal_path};
 ghost use Rattle.program.specs.EarlyJournals.{AreSavedEarly};
 
 use crate::early_journals::{SavedEarly, save_early};
+use crate::ending::Ending;
 use crate::fault::CommandFault;
 use crate::finding::SearchFinding;
 use crate::known::KnownTexts;
@@ -24,12 +25,14 @@ use crate::racing::{ToldRaces, more_lines, tell_races};
 use crate::run_ends::endings_of;
 use crate::sampling::sampled;
 use crate::stops::{have_stops, stops_of};
+use crate::subject::{
+    AskedSource, DesignSubject, Judged, judged_subject, read_sources, spare_first_of,
+};
 use crate::texts::{FoundTexts, ToldTexts};
-use arguments::{RacesRequest, SearchOptions};
+use arguments::{DesignWords, RacesRequest, SearchOptions};
 use design::Design;
 use explore::{Bounds, Explored, Shown, Stopped};
-use files::{Files, read_file, save_all, show_bytes, spare_first, try_first};
-use frontend::read_design;
+use files::{Files, save_all, show_bytes, try_first};
 use lawful::lawful_orders;
 use model::end::{End, Limits, Why};
 use model::entry::Entry;
@@ -46,42 +49,51 @@ const MEGABYTE: usize = 1_000_000;
 pub fn search_races<'a, F: Files, O: Write>(
     alloc: Global,
     request: &RacesRequest<'a>,
+    design_words: Option<&'a DesignWords<'a>>,
     files: &mut F,
     out: &mut O,
-) -> Result<SearchFinding, CommandFault<'a>>
-    ensures shown { IfOk result (HasShown (F.held files.old) request.now.file.now request.now.search_options (option_map (λ path. path.now) request.now.journals)
+) -> Result<Ending, CommandFault<'a>>
+    ensures shown { IfOk result (HasSearchedTo (sources_with (F.held files.old) (option_map (λ w. w.now) design_words.entry)) request.now.file.now request.now.search_options (option_map (λ path. path.now) request.now.journals)
         (O.contents out.old) (O.contents out.new) (F.made files.old) (F.made files.new)) }
     ensures nothing { IfErr result (λ fault. (status_of fault ≡ 3) ⊎ (status_of fault ≡ 5) → Keeps (O.contents out.old) (O.contents out.new)) }
     ensures unsaved { IfErr result (λ fault. (status_of fault ≡ 3) ⊎ (status_of fault ≡ 5) → KeepsFiles (F.made files.old) (F.made files.new)) }
-    ensures wanting { IfErr result (λ fault. status_of fault ≡ 6 → HasLeft (F.held files.old) request.now.file.now request.now.search_options (option_map (λ path. path.now) request.now.journals)
+    ensures wanting { IfErr result (λ fault. status_of fault ≡ 6 → HasLeft (sources_with (F.held files.old) (option_map (λ w. w.now) design_words.entry)) request.now.file.now request.now.search_options (option_map (λ path. path.now) request.now.journals)
         (O.contents out.old) (O.contents out.new) (F.made files.old) (F.made files.new)) }
     ensures spared { OnOk result (LeadsElsewhere (F.alike files.old) request.now.file.now (option_map (λ prefix. journal_path prefix.now 1) request.now.journals)) }
 {
-    spare_first(alloc, request.file, request.journals, files)?;
-    let source = read_file(alloc, request.file, files)?;
-    let text = source.as_slice();
-    let design = read_design(alloc, text)?;
-    search_design(alloc, text, &design, request, files, out)
+    let asked = AskedSource {
+        file: request.file,
+        words: design_words,
+    };
+    spare_first_of(alloc, asked, request.journals, files)?;
+    let texts = read_sources(alloc, asked, files)?;
+    let subject = match judged_subject(alloc, texts, files)? {
+        Judged::Taken(subject) => subject,
+        Judged::Wrong(text) => return Ok(Ending::Wrong(text)),
+    };
+    match search_design(alloc, &subject, request, files, out) {
+        Ok(found) => Ok(Ending::Found(found)),
+        Err(fault) => Err(fault),
+    }
 }
 
-/// Searches for races of the design of a source.
+/// Searches for races of a design.
 fn search_design<F: Files, O: Write>(
     alloc: Global,
-    source: &[u8],
-    design: &Design,
+    subject: &DesignSubject,
     request: &RacesRequest<'_>,
     files: &mut F,
     out: &mut O,
 ) -> Result<SearchFinding, CommandFault<'static>>
-    requires { IsDesignOf source.now design.now }
-    ensures shown { (holding : Option (List ℕ → List ℕ)) (file : List ℕ) → IsHeld holding file source.now → IfOk result (HasShown holding file request.now.search_options (option_map (λ path. path.now) request.now.journals)
+    ensures shown { (from : Sources) (file : List ℕ) → IsSubjectAt from file subject.now → IfOk result (HasShown from file request.now.search_options (option_map (λ path. path.now) request.now.journals)
         (O.contents out.old) (O.contents out.new) (F.made files.old) (F.made files.new)) }
     ensures fault { IfErr result (λ fault. (status_of fault ≡ 1) ⊎ (status_of fault ≡ 6)) }
-    ensures wanting { (holding : Option (List ℕ → List ℕ)) (file : List ℕ) → IsHeld holding file source.now → IfErr result (λ fault. status_of fault ≡ 6 → HasLeft holding file request.now.search_options (option_map (λ path. path.now) request.now.journals)
+    ensures wanting { (from : Sources) (file : List ℕ) → IsSubjectAt from file subject.now → IfErr result (λ fault. status_of fault ≡ 6 → HasLeft from file request.now.search_options (option_map (λ path. path.now) request.now.journals)
         (O.contents out.old) (O.contents out.new) (F.made files.old) (F.made files.new)) }
 {
     try_first(alloc, request.journals, files)?;
-    let early = tell_races(alloc, source, design, request, out, &files.progress())?;
+    let design = &subject.design;
+    let early = tell_races(alloc, subject, request, out, &files.progress())?;
     let ToldRaces {
         known,
         races,
@@ -98,7 +110,8 @@ fn search_design<F: Files, O: Write>(
         &files.progress(),
     )?;
     let names = RaceNames {
-        source,
+        processes: subject.processes.as_slice(),
+        source: subject.source.as_slice(),
         design,
         race_bounds: races.bounds,
         prefix: request.journals,
@@ -449,7 +462,7 @@ fn reach_lines(
     names: &RaceNames<'_>,
     texts: &FoundTexts,
 ) -> Result<Vec<u8>, AllocError>
-    ensures { IfOk result (λ lines. IsReachTold names.entry.now.source.now (met_limit texts.now.claim) texts.now.followed_before lines.items) }
+    ensures { IfOk result (λ lines. IsReachTold names.entry.now.processes.now (met_limit texts.now.claim) texts.now.followed_before lines.items) }
 {
     if !met_limit(texts.claim) {
         return Ok(Vec::new(alloc));
@@ -459,7 +472,7 @@ fn reach_lines(
         None => return Ok(Vec::new(alloc)),
     };
     let mut lines = Vec::new(alloc);
-    push_reach(alloc, &mut lines, names.source, names.design, reach)?;
+    push_reach(alloc, &mut lines, names.processes, names.design, reach)?;
     Ok(lines)
 }
 
@@ -471,7 +484,7 @@ fn said_lines(
     search_options: SearchOptions,
     end: End,
 ) -> Result<Vec<u8>, AllocError>
-    ensures { IfOk result (λ said. IsSaidLast names.entry.now.source.now search_options (option_map (λ path. path.now) names.entry.now.prefix) end texts.now.claim texts.now.followed_before texts.now.shown.items said.items) }
+    ensures { IfOk result (λ said. IsSaidLast names.entry.now.processes.now search_options (option_map (λ path. path.now) names.entry.now.prefix) end texts.now.claim texts.now.followed_before texts.now.shown.items said.items) }
 {
     let reach = reach_lines(alloc, names, texts)?;
     let last = last_lines(alloc, texts, search_options, names.prefix, end)?;

@@ -18,7 +18,7 @@ mod laws;
 mod replayed;
 mod starting;
 
-pub use bytes::{replay_bytes, replay_bytes_telling};
+pub use bytes::{replay_bytes, replay_bytes_telling, replay_on_design};
 pub use fault::{BytesFault, Cause, ReplayFault};
 pub use laws::faults_are_just;
 pub use replayed::{Replayed, replay, replay_telling, take_next};

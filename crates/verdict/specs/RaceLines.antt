@@ -18,12 +18,12 @@ site_text Updating = codes ": the order of updates, time "
 
 -- with which word a process begins
 abbrev pub begin_word : Bool → List ℕ
-begin_word true = codes ", always at line "
-begin_word false = codes ", initial at line "
+begin_word true = codes ", always at "
+begin_word false = codes ", initial at "
 
 -- where a process begins, if that is known
 abbrev pub begin_text : Option ProcessDescription → List ℕ
-begin_text (Some process) = begin_word process.always ++ decimal process.line
+begin_text (Some process) = begin_word process.always ++ process.at.now
 begin_text None = []
 
 -- the line on one of the two processes

@@ -1,10 +1,9 @@
 -- The line on registers whose values differ where no line shows it.
 use Rattle.std.specs.Prelude.{ℕ, ◌==◌, if◌then◌else◌, List, ◌++◌, codes, decimal}
-use Rattle.verdict.specs.OrderLines.{printer_text}
-use Rattle.verdict.specs.declared.order.PrinterDescription.{PrinterDescription}
+use Rattle.verdict.specs.OrderLines.{PlainPrinter, printer_text}
 
 -- for what two processes race, when, and which two they are
-abbrev pub raced_pair_text : List ℕ → ℕ → PrinterDescription → PrinterDescription → List ℕ
+abbrev pub raced_pair_text : List ℕ → ℕ → PlainPrinter → PlainPrinter → List ℕ
 raced_pair_text site time first second =
     site ++ codes ", time " ++ decimal time ++ codes ", processes " ++ printer_text first ++ codes " and " ++ printer_text second ++ codes "; "
 

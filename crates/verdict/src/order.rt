@@ -1,17 +1,17 @@
 //! The line on processes whose lines come in another order in another run.
 
-ghost use Rattle.std.specs.Prelude.{◌≡◌, ◌++◌, OnOk, option_map};
-ghost use Rattle.verdict.specs.OrderLines.{begin_line_text, later_printers_text, line_number_text, line_order_text, printer_text, printers_text, separator_text};
+ghost use Rattle.std.specs.Prelude.{◌≡◌, ◌++◌, OnOk, map, option_map};
+ghost use Rattle.verdict.specs.OrderLines.{beginning_text, in_parentheses, later_printers_text, line_order_text, plain_printer, printer_text, printers_text, separator_text};
 
 use crate::parts::{LinePart, push_parts};
 use crate::phrases::push_number;
 use std::alloc::AllocError;
 
-/// A process that prints lines: its number, and the line of the source in which it begins, counted from 1, if that is known.
+/// A process that prints lines: its number, and where it begins, in words, if that is known.
 #[derive(Clone, Copy)]
-pub struct PrinterDescription {
+pub struct PrinterDescription<'a> {
     pub number: u32,
-    pub line: Option<usize>,
+    pub at: Option<&'a str>,
 }
 
 /// Processes whose lines come in another order in another run: at which time, where journals are saved, and the number of that run's
@@ -19,7 +19,7 @@ pub struct PrinterDescription {
 #[derive(Clone, Copy)]
 pub struct LineOrderDescription<'a> {
     pub time: u64,
-    pub printers: &'a [PrinterDescription],
+    pub printers: &'a [PrinterDescription<'a>],
     pub prefix: Option<&'a str>,
     pub journal: Option<usize>,
 }
@@ -29,7 +29,7 @@ pub fn push_line_order(
     text: &mut Vec<u8>,
     order: &LineOrderDescription<'_>,
 ) -> Result<(), AllocError>
-    ensures { OnOk result (text.new.items ≡ text.old.items ++ line_order_text order.entry.now.time order.entry.now.printers.now (option_map (λ path. path.now) order.entry.now.prefix) order.entry.now.journal) }
+    ensures { OnOk result (text.new.items ≡ text.old.items ++ line_order_text order.entry.now.time (map plain_printer order.entry.now.printers.now) (option_map (λ path. path.now) order.entry.now.prefix) order.entry.now.journal) }
 {
     push_parts(
         text,
@@ -48,9 +48,9 @@ pub fn push_line_order(
 /// Puts processes behind a text, with a comma between two of them and a word before the last.
 pub(crate) fn push_printers(
     text: &mut Vec<u8>,
-    printers: &[PrinterDescription],
+    printers: &[PrinterDescription<'_>],
 ) -> Result<(), AllocError>
-    ensures { OnOk result (text.new.items ≡ text.old.items ++ printers_text printers.now) }
+    ensures { OnOk result (text.new.items ≡ text.old.items ++ printers_text (map plain_printer printers.now)) }
 {
     match printers.split_first() {
         Some((first, others)) => push_first(text, *first, others),
@@ -61,18 +61,18 @@ pub(crate) fn push_printers(
 /// Puts a process and others behind a text.
 fn push_first(
     text: &mut Vec<u8>,
-    first: PrinterDescription,
-    others: &[PrinterDescription],
+    first: PrinterDescription<'_>,
+    others: &[PrinterDescription<'_>],
 ) -> Result<(), AllocError>
-    ensures { OnOk result (text.new.items ≡ text.old.items ++ (printer_text first ++ later_printers_text others.now)) }
+    ensures { OnOk result (text.new.items ≡ text.old.items ++ (printer_text (plain_printer first.entry) ++ later_printers_text (map plain_printer others.now))) }
 {
     push_printer(text, first)?;
     push_others(text, others)
 }
 
 /// Puts processes that follow another one behind a text.
-fn push_others(text: &mut Vec<u8>, others: &[PrinterDescription]) -> Result<(), AllocError>
-    ensures { OnOk result (text.new.items ≡ text.old.items ++ later_printers_text others.now) }
+fn push_others(text: &mut Vec<u8>, others: &[PrinterDescription<'_>]) -> Result<(), AllocError>
+    ensures { OnOk result (text.new.items ≡ text.old.items ++ later_printers_text (map plain_printer others.now)) }
 {
     for place in 0..others.len() {
         push_next(text, others[place], others.len() - place - 1)?;
@@ -81,8 +81,12 @@ fn push_others(text: &mut Vec<u8>, others: &[PrinterDescription]) -> Result<(), 
 }
 
 /// Puts a process that follows another one, and behind which so many come, behind a text.
-fn push_next(text: &mut Vec<u8>, printer: PrinterDescription, left: usize) -> Result<(), AllocError>
-    ensures { OnOk result (text.new.items ≡ text.old.items ++ (separator_text left ++ printer_text printer)) }
+fn push_next(
+    text: &mut Vec<u8>,
+    printer: PrinterDescription<'_>,
+    left: usize,
+) -> Result<(), AllocError>
+    ensures { OnOk result (text.new.items ≡ text.old.items ++ (separator_text left ++ printer_text (plain_printer printer.entry))) }
 {
     text.extend_from_slice(separator(left))?;
     push_printer(text, printer)
@@ -98,32 +102,32 @@ fn separator(left: usize) -> &'static [u8]
     }
 }
 
-/// Puts a process behind a text, with its line, if that is known.
+/// Puts a process behind a text, with where it begins, if that is known.
 pub(crate) fn push_printer(
     text: &mut Vec<u8>,
-    printer: PrinterDescription,
+    printer: PrinterDescription<'_>,
 ) -> Result<(), AllocError>
-    ensures { OnOk result (text.new.items ≡ text.old.items ++ printer_text printer) }
+    ensures { OnOk result (text.new.items ≡ text.old.items ++ printer_text (plain_printer printer.entry)) }
 {
     push_number(text, u64::from(printer.number))?;
-    push_begin_line(text, printer.line)
+    push_beginning(text, printer.at)
 }
 
-/// Puts the line in which a process begins behind a text, in parentheses, or nothing where it isn't known.
-fn push_begin_line(text: &mut Vec<u8>, line: Option<usize>) -> Result<(), AllocError>
-    ensures { OnOk result (text.new.items ≡ text.old.items ++ begin_line_text line) }
+/// Puts where a process begins behind a text, in parentheses, or nothing where it isn't known.
+fn push_beginning(text: &mut Vec<u8>, at: Option<&str>) -> Result<(), AllocError>
+    ensures { OnOk result (text.new.items ≡ text.old.items ++ beginning_text (option_map (λ words. words.now) at.entry)) }
 {
-    match line {
-        Some(line) => push_line_number(text, line),
+    match at {
+        Some(at) => push_in_parentheses(text, at),
         None => Ok(()),
     }
 }
 
-/// Puts the number of a line behind a text, in parentheses.
-fn push_line_number(text: &mut Vec<u8>, line: usize) -> Result<(), AllocError>
-    ensures { OnOk result (text.new.items ≡ text.old.items ++ line_number_text line) }
+/// Puts words behind a text, in parentheses.
+fn push_in_parentheses(text: &mut Vec<u8>, words: &str) -> Result<(), AllocError>
+    ensures { OnOk result (text.new.items ≡ text.old.items ++ in_parentheses words.now) }
 {
-    text.extend_from_slice(b" (line ")?;
-    push_number(text, line as u64)?;
+    text.extend_from_slice(b" (")?;
+    text.extend_from_slice(words.as_bytes())?;
     text.extend_from_slice(b")")
 }

@@ -17,10 +17,10 @@ pub(crate) enum LinePart<'a> {
     Number(u64),
     /// Up to which time.
     UpTo(Option<u64>),
-    /// A process, with its line, if that is known.
-    Printer(PrinterDescription),
+    /// A process, with where it begins, if that is known.
+    Printer(PrinterDescription<'a>),
     /// Processes, with a comma between two of them and a word before the last.
-    Printers(&'a [PrinterDescription]),
+    Printers(&'a [PrinterDescription<'a>]),
     /// The path of a journal, in parentheses, or nothing where it isn't saved.
     Journal(Option<&'a str>, Option<usize>),
 }

@@ -1,7 +1,7 @@
 //! The lines on a race.
 
 ghost use Rattle.std.specs.Prelude.{◌≡◌, ◌++◌, OnOk, Some, option_map};
-ghost use Rattle.verdict.specs.RaceLines.{begin_text, in_quotes, saved_journal_text, differing_line_text, path_text, prefix_of, quoted_line, race_text, role_text, roles_text, run_text, runs_text, site_text, race_title_text, unnamed_text};
+ghost use Rattle.verdict.specs.RaceLines.{begin_text, begin_word, in_quotes, saved_journal_text, differing_line_text, path_text, prefix_of, quoted_line, race_text, role_text, roles_text, run_text, runs_text, site_text, race_title_text, unnamed_text};
 
 use crate::phrases::push_number;
 use std::alloc::AllocError;
@@ -17,18 +17,18 @@ pub enum SiteDescription<'a> {
     Updating,
 }
 
-/// Where a process begins: whether with `always` or with `initial`, and in which line of the source, counted from 1.
+/// Where a process begins: whether with `always` or with `initial`, and where that word stands, in words.
 #[derive(Clone, Copy)]
-pub struct ProcessDescription {
+pub struct ProcessDescription<'a> {
     pub always: bool,
-    pub line: usize,
+    pub at: &'a str,
 }
 
 /// A process that races: its number, where it begins, if that is known, and what it does.
 #[derive(Clone, Copy)]
 pub struct RoleDescription<'a> {
     pub number: u32,
-    pub begins: Option<ProcessDescription>,
+    pub begins: Option<ProcessDescription<'a>>,
     pub does: &'a str,
 }
 
@@ -131,16 +131,22 @@ fn push_role(text: &mut Vec<u8>, role: RoleDescription<'_>) -> Result<(), AllocE
     text.extend_from_slice(b"\n")
 }
 
-/// Puts the word of a process and the line in which it stands behind a text, with a comma before them.
-fn push_begin(text: &mut Vec<u8>, process: ProcessDescription) -> Result<(), AllocError>
-    ensures { OnOk result (text.new.items ≡ text.old.items ++ begin_text (Some process)) }
+/// Puts the word of a process and where it stands behind a text, with a comma before them.
+fn push_begin(text: &mut Vec<u8>, process: ProcessDescription<'_>) -> Result<(), AllocError>
+    ensures { OnOk result (text.new.items ≡ text.old.items ++ begin_text (Some process.entry)) }
 {
-    let word: &[u8] = match process.always {
-        true => b", always at line ",
-        false => b", initial at line ",
-    };
-    text.extend_from_slice(word)?;
-    push_number(text, process.line as u64)
+    text.extend_from_slice(begin_word(process.always))?;
+    text.extend_from_slice(process.at.as_bytes())
+}
+
+/// With which word a process begins, as it is told.
+fn begin_word(always: bool) -> &'static [u8]
+    ensures { result.now ≡ begin_word always }
+{
+    match always {
+        true => b", always at ",
+        false => b", initial at ",
+    }
 }
 
 /// Puts the line of a run behind a text: which process comes first in it, its journal, if that is saved, and how it differs.

@@ -1,6 +1,7 @@
 //! The lines on how far in time a search came that met a limit, and on where most of its choices are.
 
-ghost use Rattle.std.specs.Prelude.{◌≡◌, ◌++◌, OnOk};
+ghost use Rattle.std.specs.Prelude.{◌≡◌, ◌++◌, OnOk, map};
+ghost use Rattle.verdict.specs.OrderLines.{plain_printer};
 ghost use Rattle.verdict.specs.ReachLines.{before_text, choices_text, followed_text, some_choices_text};
 
 use crate::order::PrinterDescription;
@@ -32,9 +33,9 @@ fn push_before(text: &mut Vec<u8>, time: u64) -> Result<(), AllocError>
 pub fn push_choices(
     text: &mut Vec<u8>,
     time: u64,
-    processes: &[PrinterDescription],
+    processes: &[PrinterDescription<'_>],
 ) -> Result<(), AllocError>
-    ensures { OnOk result (text.new.items ≡ text.old.items ++ choices_text time processes.now) }
+    ensures { OnOk result (text.new.items ≡ text.old.items ++ choices_text time (map plain_printer processes.now)) }
 {
     match processes.len() {
         0 => Ok(()),
@@ -46,9 +47,9 @@ pub fn push_choices(
 fn push_some_choices(
     text: &mut Vec<u8>,
     time: u64,
-    processes: &[PrinterDescription],
+    processes: &[PrinterDescription<'_>],
 ) -> Result<(), AllocError>
-    ensures { OnOk result (text.new.items ≡ text.old.items ++ some_choices_text time processes.now) }
+    ensures { OnOk result (text.new.items ≡ text.old.items ++ some_choices_text time (map plain_printer processes.now)) }
 {
     push_parts(
         text,

@@ -1,6 +1,7 @@
 //! The line on registers whose values differ where no line shows it.
 
 ghost use Rattle.std.specs.Prelude.{◌≡◌, ◌++◌, OnOk};
+ghost use Rattle.verdict.specs.OrderLines.{plain_printer};
 ghost use Rattle.verdict.specs.UnseenLines.{differ_at_text, raced_pair_text, unseen_line_text};
 
 use crate::order::PrinterDescription;
@@ -9,14 +10,14 @@ use crate::phrases::push_number;
 use std::alloc::AllocError;
 
 /// Puts for what two processes race, when, and which two they are behind a text, as it stands before registers that differ by that.
-pub fn push_raced_pair(
+pub fn push_raced_pair<'a>(
     text: &mut Vec<u8>,
-    site: &[u8],
+    site: &'a [u8],
     time: u64,
-    first: PrinterDescription,
-    second: PrinterDescription,
+    first: PrinterDescription<'a>,
+    second: PrinterDescription<'a>,
 ) -> Result<(), AllocError>
-    ensures { OnOk result (text.new.items ≡ text.old.items ++ raced_pair_text site.now time first second) }
+    ensures { OnOk result (text.new.items ≡ text.old.items ++ raced_pair_text site.now time (plain_printer first.entry) (plain_printer second.entry)) }
 {
     push_parts(
         text,

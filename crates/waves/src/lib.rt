@@ -6,21 +6,27 @@
 //! 3. `value_change_dump` writes what was told as text: the registers with their identifier codes, their values at the start, and
 //!    then time by time what changed.
 //!
+//! 4. `scoped_dump` does that for a whole design, with a scope for each of the design's.
+//!
 //! What the layer above uses: a `Wave` by `waves`, with which the values of all registers at the end of each time can be read back
-//! (`specs/Waves`), and its text by `value_change_dump`, which is pinned whole by `specs/Dump`.
+//! (`specs/Waves`), and its text by `value_change_dump`, which is pinned whole by `specs/Dump`, or by `scoped_dump`, which is by
+//! `specs/ScopedDump`.
 #![tactic(auto)]
 
 mod code;
 mod dump;
 mod fault;
+mod full_names;
 mod laws;
 mod lines;
 mod recorded;
 mod recording;
+mod scoped;
 mod wave;
 
 pub use dump::value_change_dump;
 pub use fault::WaveFault;
 pub use laws::{advances_rise, codes_differ};
 pub use recording::waves;
+pub use scoped::{ShownScope, scoped_dump};
 pub use wave::{ValueChange, Wave};

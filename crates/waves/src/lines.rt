@@ -73,11 +73,11 @@ pub(crate) fn push_value(
     }
 }
 
-/// Puts the line that declares a register behind a text.
-pub(crate) fn push_register(
+/// Puts the line that declares a register of such a name behind a text.
+pub(crate) fn push_named(
     text: &mut Vec<u8>,
     register: RegId,
-    name: &str,
+    name: &[u8],
     width: u32,
 ) -> Result<(), AllocError>
     ensures { OnOk result (text.new.items ≡ text.old.items ++ register_line register name.now width) }
@@ -87,6 +87,18 @@ pub(crate) fn push_register(
     text.extend_from_slice(b" ")?;
     push_code(text, register)?;
     text.extend_from_slice(b" ")?;
-    text.extend_from_slice(name.as_bytes())?;
+    text.extend_from_slice(name)?;
     text.extend_from_slice(b" $end\n")
+}
+
+/// Puts the line that declares a register behind a text.
+pub(crate) fn push_register(
+    text: &mut Vec<u8>,
+    register: RegId,
+    name: &str,
+    width: u32,
+) -> Result<(), AllocError>
+    ensures { OnOk result (text.new.items ≡ text.old.items ++ register_line register name.now width) }
+{
+    push_named(text, register, name.as_bytes(), width)
 }

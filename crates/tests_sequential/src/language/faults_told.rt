@@ -3,7 +3,7 @@
 use crate::claims::{fail, holds};
 use diagnosis::diagnose::diagnose;
 use diagnosis::render::render;
-use locations::{Location, processes};
+use locations::{ProcessLocation, processes};
 use std::alloc::{AllocError, Global};
 use std::process::Abort;
 
@@ -32,9 +32,9 @@ pub fn is_told(rt: &impl Abort, alloc: Global) -> bool {
     }
 }
 
-fn assert_location(rt: &impl Abort, location: Location, line: usize, column: usize) {
-    holds(rt, location.line == line, "a line");
-    holds(rt, location.column == column, "a column");
+fn assert_process(rt: &impl Abort, process: &ProcessLocation, always: bool, at: &str) {
+    holds(rt, process.always == always, "a word");
+    holds(rt, process.at.as_str() == at, "a line");
 }
 
 #[test]
@@ -43,9 +43,8 @@ fn processes_stand_at_their_words(rt: HostRuntime) {
     match processes(rt.alloc(), source) {
         Ok(found) => match found.as_slice() {
             [first, second] => {
-                assert_location(&rt, first.location, 2, 3);
-                assert_location(&rt, second.location, 3, 9);
-                holds(&rt, second.always && !first.always, "their words");
+                assert_process(&rt, first, false, "line 2");
+                assert_process(&rt, second, true, "line 3");
             }
             _ => fail(&rt, "two processes"),
         },

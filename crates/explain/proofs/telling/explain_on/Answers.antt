@@ -1,7 +1,5 @@
--- By the processes of the source.
-use Rattle.std.proofs.Common.{List, refl, sym, subst}
-use Rattle.locations.specs.declared.location.ProcessLocation.{ProcessLocation}
-use Rattle.locations.specs.SourceLocations.{AreProcesses}
+-- By the names of the design.
+use Rattle.std.proofs.Common.{refl}
 use Rattle.explain.specs.declared.telling.ExplanationOptions.{ExplanationOptions}
 use Rattle.explain.specs.Wanted.{wanted_registers}
 use Rattle.explain.proofs.Ends.{explains_if, explains_fault_if}
@@ -9,11 +7,10 @@ use Rattle.explain.proofs.telling.explain_on.Goals as goal
 
 pub returns-clause-told : goal.returns-clause-told
 returns-clause-told g c =
-    let telling : ExplanationOptions = record { names = record { source = c.args.subject.source; design = c.args.subject.design; processes = c.deref.result; style = c.args.subject.presentation.style }; presentation = c.args.subject.presentation; registers = c.args.subject.registers } in
-    explains_if _ c.args.subject.source.now c.args.subject.design.now (wanted_registers c.args.subject.registers) c.args.subject.presentation c.args.entries.now (g.W.Write.contents c.args.out.now) (g.W.Write.contents c.explain_entries.new.out) telling (record {
-      source_is = refl;
+    let telling : ExplanationOptions = record { names = record { design = c.args.subject.design; processes = c.args.subject.processes; style = c.args.subject.presentation.style }; presentation = c.args.subject.presentation; registers = c.args.subject.registers } in
+    explains_if _ c.args.subject.processes.now c.args.subject.design.now (wanted_registers c.args.subject.registers) c.args.subject.presentation c.args.entries.now (g.W.Write.contents c.args.out.now) (g.W.Write.contents c.explain_entries.new.out) telling (record {
       design_is = refl;
-      are_processes = subst (λ (l : List ProcessLocation). AreProcesses c.args.subject.source.now l) (sym c.deref.ensures.value) c.in-Ok.ensures.found;
+      processes_are = refl;
       registers_are = refl;
       presentation_is = refl;
       style_is = refl;
@@ -21,11 +18,10 @@ returns-clause-told g c =
 
 pub returns-clause-stopped : goal.returns-clause-stopped
 returns-clause-stopped g c =
-    let telling : ExplanationOptions = record { names = record { source = c.args.subject.source; design = c.args.subject.design; processes = c.deref.result; style = c.args.subject.presentation.style }; presentation = c.args.subject.presentation; registers = c.args.subject.registers } in
-    explains_fault_if _ c.args.subject.source.now c.args.subject.design.now (wanted_registers c.args.subject.registers) c.args.subject.presentation c.args.entries.now (g.W.Write.contents c.args.out.now) (g.W.Write.contents c.explain_entries.new.out) telling (record {
-      source_is = refl;
+    let telling : ExplanationOptions = record { names = record { design = c.args.subject.design; processes = c.args.subject.processes; style = c.args.subject.presentation.style }; presentation = c.args.subject.presentation; registers = c.args.subject.registers } in
+    explains_fault_if _ c.args.subject.processes.now c.args.subject.design.now (wanted_registers c.args.subject.registers) c.args.subject.presentation c.args.entries.now (g.W.Write.contents c.args.out.now) (g.W.Write.contents c.explain_entries.new.out) telling (record {
       design_is = refl;
-      are_processes = subst (λ (l : List ProcessLocation). AreProcesses c.args.subject.source.now l) (sym c.deref.ensures.value) c.in-Ok.ensures.found;
+      processes_are = refl;
       registers_are = refl;
       presentation_is = refl;
       style_is = refl;

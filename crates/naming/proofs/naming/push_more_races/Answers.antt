@@ -4,7 +4,6 @@ use Rattle.causes.specs.declared.parting_race.PartingRace.{PartingRace}
 use Rattle.races.specs.declared.told.Race.{Race}
 use Rattle.statements.specs.declared.statement_token.StatementToken.{StatementToken}
 use Rattle.statements.specs.PlainStatementTokens.{plain_statement_token}
-use Rattle.naming.specs.Begins.{AreProcessesOf}
 use Rattle.naming.specs.SourcePlaces.{AreStatementsOf}
 use Rattle.naming.specs.Naming.{TellsSome, numbered_before, numbered_races, unnamed_lines}
 use Rattle.naming.proofs.Races.{tells_more_behind}
@@ -12,11 +11,7 @@ use Rattle.naming.proofs.naming.push_more_races.Goals as goal
 
 pub places_with-places-requires : goal.places_with-places-requires
 places_with-places-requires c =
-    let source = c.args.names.now.source.now in
-    record {
-      processes = subst (AreProcessesOf source) (sym c.as_slice-begins.ensures.value) c.in_ok-processes.ensures;
-      statements = subst (λ (ts : List StatementToken). AreStatementsOf source (map plain_statement_token ts)) (sym c.as_slice-tokens.ensures.value) c.in_ok-statements.ensures;
-    }
+    subst (λ (ts : List StatementToken). AreStatementsOf c.args.names.now.source.now (map plain_statement_token ts)) (sym c.as_slice-tokens.ensures.value) c.in_ok-statements.ensures
 
 pub returns : goal.returns
 returns c =
@@ -40,5 +35,5 @@ returns c =
     let some = subst (λ (cs : List PartingRace). TellsSome places names.design.now names.shown.now prefix cs old mid started after) more c.in_ok-push_parting.ensures.tells in
     let unnamed = c.in_ok-push_unnamed_texts.ensures ∙ ap (λ (ns : List ℕ). next ++ unnamed_lines ns) c.as_slice-3.ensures.value in
     let seen = c.push_unseen.ensures in
-    tells_more_behind c.push_unseen.result names.source.now places names.design.now names.shown.now prefix names.race_bounds found before causes old mid next c.push_unnamed_texts.new.text.items c.push_end.new.text.items c.push_alone.new.text.items c.push_unseen.new.text.items
+    tells_more_behind c.push_unseen.result names.processes.now names.source.now places names.design.now names.shown.now prefix names.race_bounds found before causes old mid next c.push_unnamed_texts.new.text.items c.push_end.new.text.items c.push_alone.new.text.items c.push_unseen.new.text.items
     started after of_source first c.told_before-told.ensures.none some c.in_ok-push_kept.ensures unnamed c.in_ok-push_end.ensures c.in_ok-push_alone.ensures seen

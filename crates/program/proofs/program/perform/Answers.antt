@@ -1,10 +1,13 @@
 -- What is asked for was done, and a check is no other request.
-use Rattle.std.proofs.Common.{ap, subst}
+use Rattle.std.proofs.Common.{ap, option_map, subst}
 use Rattle.std.specs.Io.KnownBytes.{Keeps}
 use Rattle.journal.specs.Counted.{held}
 use Rattle.arguments.specs.CommandWords.{Asks, AsksCheck, AsksExplain}
 use Rattle.files.specs.Saved.{KeepsFiles}
-use Rattle.program.proofs.Ended.{at_any_fault, check_alone, explain_alone, if_err, if_read, is_check, is_explain, kept, left_of_dump, left_of_telling, left_unless_one, one_only, output_same, unless_one, unless_told, version_performed}
+use Rattle.program.proofs.Ended.{at_any_fault, check_alone, explain_alone, if_err, if_read, is_check, is_explain, kept, left_of_dump, left_of_telling, left_unless_one, one_only, output_same, run_performed, unless_one, unless_told, version_performed}
+use Rattle.program.proofs.Explained.{refused_performed, telling_performed}
+use Rattle.program.proofs.Subjects.{on_any_fault}
+use Rattle.program.specs.Subjects.{sources_with}
 use Rattle.program.proofs.program.perform.Goals as goal
 
 pub returns-in-Run-clause-checked : goal.returns-in-Run-clause-checked
@@ -18,7 +21,7 @@ returns-in-Races-clause-checked g c = λ words asks begins. absurd (check_alone 
 
 pub returns-in-Run-clause-nothing : goal.returns-in-Run-clause-nothing
 returns-in-Run-clause-nothing g c = λ words asks.
-    unless_one (Keeps (g.O.Write.contents (held c.args.out.now)) (g.O.Write.contents (held c.perform_run.new.out))) words c.perform_run.result c.perform_run.ensures.nothing
+    unless_one (Keeps (g.O.Write.contents (held c.args.out.now)) (g.O.Write.contents (held c.run.new.out))) words c.run.result c.run.ensures.nothing
 
 pub returns-in-Replay-clause-nothing : goal.returns-in-Replay-clause-nothing
 returns-in-Replay-clause-nothing g c = λ words asks.
@@ -32,15 +35,27 @@ pub returns-in-Explain-clause-checked : goal.returns-in-Explain-clause-checked
 returns-in-Explain-clause-checked g c = λ words asks begins. absurd (check_alone words c.args.request.now (ap is_check c.in-Explain.is) asks begins)
 
 pub returns-in-Explain-clause-refused : goal.returns-in-Explain-clause-refused
-returns-in-Explain-clause-refused g c = λ words asks begins. c.perform_explain.ensures.refused words (subst (Asks words) c.in-Explain.is asks)
+returns-in-Explain-clause-refused g c = λ words asks begins.
+    refused_performed (sources_with (g.F.Files.held c.args.files.now) (option_map (λ w. w.now) c.args.design_words)) words c.in-Explain.request (g.O.Write.contents (held c.args.out.now)) (g.O.Write.contents (held c.explain_journal.new.out)) c.explain_journal.result
+    (subst (Asks words) c.in-Explain.is asks) c.explain_journal.ensures.refused
+
+pub returns-in-Explain-clause-ended : goal.returns-in-Explain-clause-ended
+returns-in-Explain-clause-ended g c = λ words asks.
+    telling_performed (sources_with (g.F.Files.held c.args.files.now) (option_map (λ w. w.now) c.args.design_words)) words c.in-Explain.request (g.O.Write.contents (held c.args.out.now)) (g.O.Write.contents (held c.explain_journal.new.out)) (g.F.Files.made c.args.files.now)
+    (g.F.Files.made c.explain_journal.new.files) c.explain_journal.result (subst (Asks words) c.in-Explain.is asks) c.explain_journal.ensures.ended c.explain_journal.ensures.unsaved
+
+pub returns-in-Run-clause-ended : goal.returns-in-Run-clause-ended
+returns-in-Run-clause-ended g c = λ words asks.
+    run_performed (sources_with (g.F.Files.held c.args.files.now) (option_map (λ w. w.now) c.args.design_words)) words c.in-Run.request (g.O.Write.contents (held c.args.out.now)) (g.O.Write.contents (held c.run.new.out)) (g.F.Files.made c.args.files.now)
+    (g.F.Files.made c.run.new.files) c.run.result (subst (Asks words) c.in-Run.is asks) c.run.ensures.printed
 
 pub returns-in-Explain-clause-nothing : goal.returns-in-Explain-clause-nothing
 returns-in-Explain-clause-nothing g c = λ words asks.
     let own : AsksExplain words c.in-Explain.request = subst (Asks words) c.in-Explain.is asks in
-    unless_told (Keeps (g.O.Write.contents (held c.args.out.now)) (g.O.Write.contents (held c.perform_explain.new.out))) words c.perform_explain.result own.begins c.perform_explain.ensures.nothing
+    unless_told (Keeps (g.O.Write.contents (held c.args.out.now)) (g.O.Write.contents (held c.explain_journal.new.out))) words c.explain_journal.result own.begins c.explain_journal.ensures.nothing
 
 pub returns-in-Explain-clause-unsaved : goal.returns-in-Explain-clause-unsaved
-returns-in-Explain-clause-unsaved g c = if_err _ c.perform_explain.result (λ f source. c.perform_explain.ensures.unsaved)
+returns-in-Explain-clause-unsaved g c = if_err _ c.explain_journal.result (λ f source. c.explain_journal.ensures.unsaved)
 
 pub returns-in-Run-clause-refused : goal.returns-in-Run-clause-refused
 returns-in-Run-clause-refused g c = λ words asks begins. absurd (explain_alone words c.args.request.now (ap is_explain c.in-Run.is) asks begins)
@@ -89,7 +104,7 @@ returns-in-Waves-clause-unsaved g c = at_any_fault (KeepsFiles (g.F.Files.made c
 
 pub returns-in-Version-clause-ended : goal.returns-in-Version-clause-ended
 returns-in-Version-clause-ended g c = λ words asks.
-    version_performed (g.F.Files.held c.args.files.now) words (g.O.Write.contents (held c.args.out.now)) (g.O.Write.contents (held c.perform_version.new.out)) (g.F.Files.made c.args.files.now)
+    version_performed (sources_with (g.F.Files.held c.args.files.now) (option_map (λ w. w.now) c.args.design_words)) words (g.O.Write.contents (held c.args.out.now)) (g.O.Write.contents (held c.perform_version.new.out)) (g.F.Files.made c.args.files.now)
     c.perform_version.result (subst (Asks words) c.in-Version.is asks) c.perform_version.ensures.shown c.perform_version.ensures.done
 
 pub returns-in-Version-clause-checked : goal.returns-in-Version-clause-checked
@@ -105,11 +120,11 @@ returns-in-Version-clause-unsaved g c = if_err _ c.perform_version.result (λ f 
 
 pub returns-in-Run-clause-wanting : goal.returns-in-Run-clause-wanting
 returns-in-Run-clause-wanting g c = λ words asks.
-    left_unless_one (g.F.Files.held c.args.files.now) words (g.O.Write.contents (held c.args.out.now)) (g.O.Write.contents (held c.perform_run.new.out)) (g.F.Files.made c.args.files.now) (g.F.Files.made c.perform_run.new.files) c.perform_run.result c.perform_run.ensures.nothing c.perform_run.ensures.unsaved
+    left_unless_one (sources_with (g.F.Files.held c.args.files.now) (option_map (λ w. w.now) c.args.design_words)) words (g.O.Write.contents (held c.args.out.now)) (g.O.Write.contents (held c.run.new.out)) (g.F.Files.made c.args.files.now) (g.F.Files.made c.run.new.files) c.run.result c.run.ensures.nothing c.run.ensures.unsaved
 
 pub returns-in-Replay-clause-wanting : goal.returns-in-Replay-clause-wanting
 returns-in-Replay-clause-wanting g c = λ words asks.
-    left_unless_one (g.F.Files.held c.args.files.now) words (g.O.Write.contents (held c.args.out.now)) (g.O.Write.contents (held c.replay_journal.new.out)) (g.F.Files.made c.args.files.now) (g.F.Files.made c.replay_journal.new.files) c.replay_journal.result c.replay_journal.ensures.nothing
+    left_unless_one (sources_with (g.F.Files.held c.args.files.now) (option_map (λ w. w.now) c.args.design_words)) words (g.O.Write.contents (held c.args.out.now)) (g.O.Write.contents (held c.replay_journal.new.out)) (g.F.Files.made c.args.files.now) (g.F.Files.made c.replay_journal.new.files) c.replay_journal.result c.replay_journal.ensures.nothing
     (if_err _ c.replay_journal.result (λ f other. c.replay_journal.ensures.unsaved))
 
 pub returns-in-Races-clause-wanting : goal.returns-in-Races-clause-wanting
@@ -117,22 +132,22 @@ returns-in-Races-clause-wanting g c = λ words asks. c.perform_races.ensures.wan
 
 pub returns-in-Check-clause-wanting : goal.returns-in-Check-clause-wanting
 returns-in-Check-clause-wanting g c = λ words asks.
-    left_unless_one (g.F.Files.held c.args.files.now) words (g.O.Write.contents (held c.args.out.now)) (g.O.Write.contents (held c.perform_check.new.out)) (g.F.Files.made c.args.files.now) (g.F.Files.made c.perform_check.new.files) c.perform_check.result c.perform_check.ensures.nothing
+    left_unless_one (sources_with (g.F.Files.held c.args.files.now) (option_map (λ w. w.now) c.args.design_words)) words (g.O.Write.contents (held c.args.out.now)) (g.O.Write.contents (held c.perform_check.new.out)) (g.F.Files.made c.args.files.now) (g.F.Files.made c.perform_check.new.files) c.perform_check.result c.perform_check.ensures.nothing
     (if_err _ c.perform_check.result (λ f other. c.perform_check.ensures.unsaved))
 
 pub returns-in-Explain-clause-wanting : goal.returns-in-Explain-clause-wanting
 returns-in-Explain-clause-wanting g c = λ words asks.
     let own : AsksExplain words c.in-Explain.request = subst (Asks words) c.in-Explain.is asks in
-    left_of_telling (g.F.Files.held c.args.files.now) words (g.O.Write.contents (held c.args.out.now)) (g.O.Write.contents (held c.perform_explain.new.out)) (g.F.Files.made c.args.files.now) (g.F.Files.made c.perform_explain.new.files) c.perform_explain.result own.begins c.perform_explain.ensures.unsaved
+    left_of_telling (sources_with (g.F.Files.held c.args.files.now) (option_map (λ w. w.now) c.args.design_words)) words (g.O.Write.contents (held c.args.out.now)) (g.O.Write.contents (held c.explain_journal.new.out)) (g.F.Files.made c.args.files.now) (g.F.Files.made c.explain_journal.new.files) c.explain_journal.result own.begins c.explain_journal.ensures.unsaved
 
 pub returns-in-Waves-clause-wanting : goal.returns-in-Waves-clause-wanting
 returns-in-Waves-clause-wanting g c = λ words asks.
-    left_of_dump (g.F.Files.held c.args.files.now) words (g.O.Write.contents (held c.args.out.now)) (g.F.Files.made c.args.files.now) (g.F.Files.made c.dump_waves.new.files) c.dump_waves.result c.dump_waves.ensures.unsaved
+    left_of_dump (sources_with (g.F.Files.held c.args.files.now) (option_map (λ w. w.now) c.args.design_words)) words (g.O.Write.contents (held c.args.out.now)) (g.F.Files.made c.args.files.now) (g.F.Files.made c.dump_waves.new.files) c.dump_waves.result c.dump_waves.ensures.unsaved
 
 pub returns-in-Version-clause-wanting : goal.returns-in-Version-clause-wanting
 returns-in-Version-clause-wanting g c = λ words asks.
     let left = Keeps (g.O.Write.contents (held c.args.out.now)) (g.O.Write.contents (held c.perform_version.new.out)) in
-    left_unless_one (g.F.Files.held c.args.files.now) words (g.O.Write.contents (held c.args.out.now)) (g.O.Write.contents (held c.perform_version.new.out)) (g.F.Files.made c.args.files.now) (g.F.Files.made c.args.files.now) c.perform_version.result (one_only left c.perform_version.result c.perform_version.ensures.fault)
+    left_unless_one (sources_with (g.F.Files.held c.args.files.now) (option_map (λ w. w.now) c.args.design_words)) words (g.O.Write.contents (held c.args.out.now)) (g.O.Write.contents (held c.perform_version.new.out)) (g.F.Files.made c.args.files.now) (g.F.Files.made c.args.files.now) c.perform_version.result (one_only left c.perform_version.result c.perform_version.ensures.fault)
     (if_err _ c.perform_version.result (λ f other. kept (g.F.Files.made c.args.files.now)))
 
 pub returns-in-Diff-clause-ended : goal.returns-in-Diff-clause-ended
@@ -153,5 +168,27 @@ returns-in-Diff-clause-unsaved g c = if_err _ c.diff_journals.result (λ f sourc
 
 pub returns-in-Diff-clause-wanting : goal.returns-in-Diff-clause-wanting
 returns-in-Diff-clause-wanting g c = λ words asks.
-    left_unless_one (g.F.Files.held c.args.files.now) words (g.O.Write.contents (held c.args.out.now)) (g.O.Write.contents (held c.diff_journals.new.out)) (g.F.Files.made c.args.files.now) (g.F.Files.made c.diff_journals.new.files) c.diff_journals.result c.diff_journals.ensures.nothing
+    left_unless_one (sources_with (g.F.Files.held c.args.files.now) (option_map (λ w. w.now) c.args.design_words)) words (g.O.Write.contents (held c.args.out.now)) (g.O.Write.contents (held c.diff_journals.new.out)) (g.F.Files.made c.args.files.now) (g.F.Files.made c.diff_journals.new.files) c.diff_journals.result c.diff_journals.ensures.nothing
     (if_err _ c.diff_journals.result (λ f other. c.diff_journals.ensures.unsaved))
+
+pub returns-in-Flatten-clause-ended : goal.returns-in-Flatten-clause-ended
+returns-in-Flatten-clause-ended g c = λ words asks. c.perform_flatten.ensures.ended words (subst (Asks words) c.in-Flatten.is asks)
+
+pub returns-in-Flatten-clause-checked : goal.returns-in-Flatten-clause-checked
+returns-in-Flatten-clause-checked g c = λ words asks begins. absurd (check_alone words c.args.request.now (ap is_check c.in-Flatten.is) asks begins)
+
+pub returns-in-Flatten-clause-refused : goal.returns-in-Flatten-clause-refused
+returns-in-Flatten-clause-refused g c = λ words asks begins. absurd (explain_alone words c.args.request.now (ap is_explain c.in-Flatten.is) asks begins)
+
+pub returns-in-Flatten-clause-nothing : goal.returns-in-Flatten-clause-nothing
+returns-in-Flatten-clause-nothing g c = λ words asks.
+    unless_one (Keeps (g.O.Write.contents (held c.args.out.now)) (g.O.Write.contents (held c.perform_flatten.new.out))) words c.perform_flatten.result c.perform_flatten.ensures.nothing
+
+pub returns-in-Flatten-clause-unsaved : goal.returns-in-Flatten-clause-unsaved
+returns-in-Flatten-clause-unsaved g c =
+    at_any_fault (KeepsFiles (g.F.Files.made c.args.files.now) (g.F.Files.made c.perform_flatten.new.files)) c.perform_flatten.result c.perform_flatten.ensures.unsaved
+
+pub returns-in-Flatten-clause-wanting : goal.returns-in-Flatten-clause-wanting
+returns-in-Flatten-clause-wanting g c = λ words asks.
+    left_unless_one (sources_with (g.F.Files.held c.args.files.now) (option_map (λ w. w.now) c.args.design_words)) words (g.O.Write.contents (held c.args.out.now)) (g.O.Write.contents (held c.perform_flatten.new.out)) (g.F.Files.made c.args.files.now) (g.F.Files.made c.perform_flatten.new.files) c.perform_flatten.result c.perform_flatten.ensures.nothing
+    (on_any_fault (KeepsFiles (g.F.Files.made c.args.files.now) (g.F.Files.made c.perform_flatten.new.files)) c.perform_flatten.result c.perform_flatten.ensures.unsaved)

@@ -1,5 +1,5 @@
 -- The lines tell the further races.
-use Rattle.std.proofs.Common.{◌≡◌, ◌∙◌, ◌≤◌, ℕ, length, option_map, subst, sym}
+use Rattle.std.proofs.Common.{◌∙◌, ◌≤◌, ℕ, length, option_map, subst, sym}
 use Rattle.explore.proofs.Growing.{length-extends}
 use Rattle.naming.specs.Naming.{TellsMore}
 use Rattle.program.proofs.racing.more_lines.Goals as goal
@@ -21,5 +21,5 @@ returns g c =
       are_causes = c.all_causes-all.ensures.are;
       grown = c.all_causes-all.ensures.grown;
       answered = c.all_causes-all.ensures.answered;
-      tells = subst (λ (n : ℕ). TellsMore names.source.now names.design.now names.shown.now prefix races.bounds races.found n all c.in_ok-lines.lines.items) same c.in_ok-lines.ensures;
+      tells = subst (λ (n : ℕ). TellsMore names.processes.now names.source.now names.design.now names.shown.now prefix races.bounds races.found n all c.in_ok-lines.lines.items) same c.in_ok-lines.ensures;
     }

@@ -8,7 +8,7 @@ use Rattle.program.proofs.Endings.{ended}
 use Rattle.program.proofs.running.left_on_workers.Goals as goal
 
 pub returns-in-Ok-clause-left : goal.returns-in-Ok-clause-left
-returns-in-Ok-clause-left g c = λ holding file described. record {
+returns-in-Ok-clause-left g c = λ from file described. record {
   closed = c.in-Ok.outcome.closed;
   is_run = search rules;
   journal = c.into_parts-journal.ensures.entries;

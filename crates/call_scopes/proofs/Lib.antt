@@ -1,0 +1,3 @@
+pub mod MadeFor
+mod OnlyNames
+mod Shown

@@ -1,0 +1,2 @@
+pub mod Formats
+pub mod Fresh

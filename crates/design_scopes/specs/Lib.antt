@@ -1,0 +1,5 @@
+pub mod Places
+pub mod Flat
+pub mod Values
+pub mod Designs
+pub mod Blocks

@@ -1,0 +1,10 @@
+pub mod Fronts
+pub mod Shapes
+pub mod Strings
+pub mod Formats
+pub mod Views
+pub mod Lowered
+pub mod Variables
+pub mod Parts
+pub mod Steps
+pub mod Modules

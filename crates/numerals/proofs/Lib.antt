@@ -1,0 +1,2 @@
+-- Lemmas on the bytes of numbers.
+pub mod Turns

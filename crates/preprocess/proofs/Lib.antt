@@ -1,0 +1,4 @@
+pub mod Standing
+pub mod PlainFiles
+pub mod Substitution
+pub mod Sourced

@@ -1,0 +1,4 @@
+pub mod Places
+pub mod Plain
+pub mod Macros
+pub mod Sources

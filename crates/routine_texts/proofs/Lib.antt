@@ -1,0 +1,4 @@
+mod Arguments
+mod CallsLeft
+pub mod Processes
+pub mod Tables

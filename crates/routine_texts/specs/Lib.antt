@@ -1,0 +1,4 @@
+pub mod Processes
+pub mod Routines
+pub mod Calls
+pub mod Tables

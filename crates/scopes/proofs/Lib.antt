@@ -1,0 +1,4 @@
+pub mod Adding
+pub mod Lookups
+pub mod Growing
+pub mod Told

@@ -1,0 +1,4 @@
+pub mod Scopes
+pub mod Names
+pub mod Faults
+pub mod Trees

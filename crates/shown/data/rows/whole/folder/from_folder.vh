@@ -1,0 +1,1 @@
+initial $display("included");

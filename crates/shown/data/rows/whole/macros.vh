@@ -1,0 +1,1 @@
+`define VALUE 8'd200

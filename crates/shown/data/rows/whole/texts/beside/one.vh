@@ -1,0 +1,3 @@
+initial begin
+`include "two.vh"
+end

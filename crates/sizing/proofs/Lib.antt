@@ -1,0 +1,12 @@
+pub mod Trees
+pub mod Selections
+pub mod Made
+pub mod Joining
+pub mod Alone
+pub mod Orders
+pub mod Loops
+pub mod Naming
+pub mod Worth
+pub mod Lowered
+pub mod Sources
+pub mod Follows

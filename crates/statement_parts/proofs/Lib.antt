@@ -1,0 +1,4 @@
+pub mod Gathering
+pub mod Names
+pub mod Meant
+pub mod Nodes

@@ -1,0 +1,5 @@
+pub mod Statements
+pub mod Surroundings
+pub mod Places
+pub mod Reads
+pub mod Parts
