@@ -1,5 +1,6 @@
 -- The plain trees of choices.
-use Rattle.std.proofs.Common.{◌≡◌, ℕ, List, [], ◌∷◌, ◌++◌, Some, None, ap, sym, ◌∙◌}
+use Rattle.std.proofs.Common.{◌≡◌, ℕ, List, [], ◌∷◌, ◌++◌, Some, None, Result, Ok, ap, sym, ◌∙◌, subst}
+use Rattle.std.specs.Prelude.{IfOk}
 use Rattle.std.specs.declared.alloc.Global.{Global}
 use Rattle.std.specs.declared.boxed.Box.{Box}
 use Rattle.std.specs.declared.vec.Vec.{Vec}
@@ -24,8 +25,10 @@ choice_is token branches all is =
     ap plain_of (sym (rolls-If token branches None)) ∙ fold-roll-VerilogStatement PlainStatement PlainItem (Expression × PlainStatement) plain_node item_node branch_node (VerilogStatement-F.If token branches None)
     ∙ ap (λ b. plain.If token b plain.NoElse) is
 
-pub alternative_is : (token : ℕ) (branches : Vec ConditionalBranch Global) (last : Box VerilogStatement Global) (all : PlainBranches) (s : VerilogStatement) → plain_branches_of branches.items ≡ all → last.value ≡ s
+pub alternative_is : {E : Type 0} (token : ℕ) (made_branches : Result (Vec ConditionalBranch Global) E) (branches : Vec ConditionalBranch Global) (last : Box VerilogStatement Global) (all : PlainBranches) (s : VerilogStatement)
+    → made_branches ≡ Ok branches → IfOk made_branches (λ bs. plain_branches_of bs.items ≡ all) → last.value ≡ s
     → plain_of (made.If token branches (Some last)) ≡ plain.If token all (plain.Else (plain_of s))
-alternative_is token branches last all s is same =
+alternative_is token made_branches branches last all s so h same =
+    let is : plain_branches_of branches.items ≡ all = subst (λ r. IfOk r (λ bs. plain_branches_of bs.items ≡ all)) so h in
     ap plain_of (sym (rolls-If token branches (Some last))) ∙ fold-roll-VerilogStatement PlainStatement PlainItem (Expression × PlainStatement) plain_node item_node branch_node (VerilogStatement-F.If token branches (Some last))
     ∙ ap (λ b. plain.If token b (plain.Else (plain_of last.value))) is ∙ ap (λ x. plain.If token all (plain.Else (plain_of x))) same

@@ -3,10 +3,7 @@
 ghost use Rattle.std.specs.Prelude.{◌≡◌, map, IfOk};
 ghost use Rattle.syntax_tree.specs.Expressions.{plain_expression_of};
 
-use crate::expression_nodes::{
-    NumberForm, binary_of, call_of, concatenation_of, conditional_of, index_of, number_of, part_of,
-    real_of, replication_of, system_call_of, text_of, unary_of,
-};
+use crate::expression_nodes::{NumberForm, number_of, real_of, system_call_of, text_of};
 use crate::nodes::{MadeNode, member_of, name_node};
 use std::alloc::Global;
 use syntax_tree::expressions::VerilogExpression;
@@ -39,9 +36,10 @@ pub fn copied_expression(alloc: Global, e: &VerilogExpression) -> MadeNode<Veril
             member_of(alloc, *token, scope, name.as_slice())
         }
         VerilogExpression::Index { token, base, index } => {
-            let base = copied_expression(alloc, base)?;
-            let index = copied_expression(alloc, index)?;
-            index_of(alloc, *token, base, index)
+            let token = *token;
+            let base = copied_box(alloc, base)?;
+            let index = copied_box(alloc, index)?;
+            Ok(VerilogExpression::Index { token, base, index })
         }
         VerilogExpression::Part {
             token,
@@ -50,19 +48,31 @@ pub fn copied_expression(alloc: Global, e: &VerilogExpression) -> MadeNode<Veril
             first,
             second,
         } => {
-            let base = copied_expression(alloc, base)?;
-            let first = copied_expression(alloc, first)?;
-            let second = copied_expression(alloc, second)?;
-            part_of(alloc, *token, *form, base, (first, second))
+            let (token, form) = (*token, *form);
+            let base = copied_box(alloc, base)?;
+            let first = copied_box(alloc, first)?;
+            let second = copied_box(alloc, second)?;
+            Ok(VerilogExpression::Part {
+                token,
+                form,
+                base,
+                first,
+                second,
+            })
         }
         VerilogExpression::Call {
             token,
             function,
             arguments,
         } => {
-            let function = copied_expression(alloc, function)?;
+            let token = *token;
+            let function = copied_box(alloc, function)?;
             let arguments = copied_all(alloc, arguments.as_slice())?;
-            call_of(alloc, *token, function, arguments)
+            Ok(VerilogExpression::Call {
+                token,
+                function,
+                arguments,
+            })
         }
         VerilogExpression::SystemCall {
             token,
@@ -73,25 +83,36 @@ pub fn copied_expression(alloc: Global, e: &VerilogExpression) -> MadeNode<Veril
             system_call_of(alloc, *token, name.as_slice(), arguments)
         }
         VerilogExpression::Concatenation { token, parts } => {
+            let token = *token;
             let parts = copied_all(alloc, parts.as_slice())?;
-            Ok(concatenation_of(*token, parts))
+            Ok(VerilogExpression::Concatenation { token, parts })
         }
         VerilogExpression::Replication {
             token,
             count,
             parts,
         } => {
-            let count = copied_expression(alloc, count)?;
+            let token = *token;
+            let count = copied_box(alloc, count)?;
             let parts = copied_all(alloc, parts.as_slice())?;
-            replication_of(alloc, *token, count, parts)
+            Ok(VerilogExpression::Replication {
+                token,
+                count,
+                parts,
+            })
         }
         VerilogExpression::Unary {
             token,
             operator,
             operand,
         } => {
-            let operand = copied_expression(alloc, operand)?;
-            unary_of(alloc, *token, *operator, operand)
+            let (token, operator) = (*token, *operator);
+            let operand = copied_box(alloc, operand)?;
+            Ok(VerilogExpression::Unary {
+                token,
+                operator,
+                operand,
+            })
         }
         VerilogExpression::Binary {
             token,
@@ -99,9 +120,15 @@ pub fn copied_expression(alloc: Global, e: &VerilogExpression) -> MadeNode<Veril
             left,
             right,
         } => {
-            let left = copied_expression(alloc, left)?;
-            let right = copied_expression(alloc, right)?;
-            binary_of(alloc, *token, *operator, left, right)
+            let (token, operator) = (*token, *operator);
+            let left = copied_box(alloc, left)?;
+            let right = copied_box(alloc, right)?;
+            Ok(VerilogExpression::Binary {
+                token,
+                operator,
+                left,
+                right,
+            })
         }
         VerilogExpression::Conditional {
             token,
@@ -109,13 +136,28 @@ pub fn copied_expression(alloc: Global, e: &VerilogExpression) -> MadeNode<Veril
             first,
             second,
         } => {
-            let condition = copied_expression(alloc, condition)?;
-            let first = copied_expression(alloc, first)?;
-            let second = copied_expression(alloc, second)?;
-            conditional_of(alloc, *token, condition, first, second)
+            let token = *token;
+            let condition = copied_box(alloc, condition)?;
+            let first = copied_box(alloc, first)?;
+            let second = copied_box(alloc, second)?;
+            Ok(VerilogExpression::Conditional {
+                token,
+                condition,
+                first,
+                second,
+            })
         }
         VerilogExpression::Refused { token } => Ok(VerilogExpression::Refused { token: *token }),
     }
+}
+
+/// A copy of an expression, in a box. Fails where memory is refused.
+#[cycle(copying)]
+pub fn copied_box(alloc: Global, e: &VerilogExpression) -> MadeNode<Box<VerilogExpression>>
+    ensures { IfOk result (λ made. plain_expression_of made.value ≡ plain_expression_of e.now) }
+{
+    let made = copied_expression(alloc, e)?;
+    Ok(Box::new(alloc, made)?)
 }
 
 /// Copies of expressions, in their order. Fails where memory is refused.

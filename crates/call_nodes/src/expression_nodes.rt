@@ -8,9 +8,7 @@ use crate::nodes::MadeNode;
 use logic4::bits::Bits;
 use scopes::scope::copied;
 use std::alloc::Global;
-use syntax_tree::expressions::{
-    PartForm, VerilogBinaryOperator, VerilogExpression, VerilogUnaryOperator,
-};
+use syntax_tree::expressions::{PartForm, VerilogBinaryOperator, VerilogExpression};
 
 /// The spelling of a number: whether it has a size and a sign, and whether digits were cut from it.
 #[derive(Clone, Copy)]
@@ -52,17 +50,20 @@ pub fn text_of(alloc: Global, token: usize, bytes: &[u8]) -> MadeNode<VerilogExp
     Ok(VerilogExpression::Text { token, bytes })
 }
 
-pub fn index_of(
+pub fn system_call_of(
     alloc: Global,
     token: usize,
-    base: VerilogExpression,
-    index: VerilogExpression,
+    name: &[u8],
+    arguments: Vec<VerilogExpression>,
 ) -> MadeNode<VerilogExpression>
-    ensures { IfOk result (λ made. plain_expression_of made ≡ tree.Index token (plain_expression_of base) (plain_expression_of index)) }
+    ensures { IfOk result (λ made. plain_expression_of made ≡ tree.SystemCall token name.now (plain_expressions (plain_expressions_of arguments))) }
 {
-    let base = Box::new(alloc, base)?;
-    let index = Box::new(alloc, index)?;
-    Ok(VerilogExpression::Index { token, base, index })
+    let name = copied(alloc, name)?;
+    Ok(VerilogExpression::SystemCall {
+        token,
+        name,
+        arguments,
+    })
 }
 
 /// A part select, by what it selects of and by the two expressions in its brackets.
@@ -88,77 +89,7 @@ pub fn part_of(
     })
 }
 
-pub fn call_of(
-    alloc: Global,
-    token: usize,
-    function: VerilogExpression,
-    arguments: Vec<VerilogExpression>,
-) -> MadeNode<VerilogExpression>
-    ensures { IfOk result (λ made. plain_expression_of made ≡ tree.Call token (plain_expression_of function) (plain_expressions (plain_expressions_of arguments))) }
-{
-    let function = Box::new(alloc, function)?;
-    Ok(VerilogExpression::Call {
-        token,
-        function,
-        arguments,
-    })
-}
-
-pub fn system_call_of(
-    alloc: Global,
-    token: usize,
-    name: &[u8],
-    arguments: Vec<VerilogExpression>,
-) -> MadeNode<VerilogExpression>
-    ensures { IfOk result (λ made. plain_expression_of made ≡ tree.SystemCall token name.now (plain_expressions (plain_expressions_of arguments))) }
-{
-    let name = copied(alloc, name)?;
-    Ok(VerilogExpression::SystemCall {
-        token,
-        name,
-        arguments,
-    })
-}
-
-pub fn concatenation_of(token: usize, parts: Vec<VerilogExpression>) -> VerilogExpression
-    ensures { plain_expression_of result ≡ tree.Concatenation token (plain_expressions (plain_expressions_of parts)) }
-{
-    VerilogExpression::Concatenation { token, parts }
-}
-
-pub fn replication_of(
-    alloc: Global,
-    token: usize,
-    count: VerilogExpression,
-    parts: Vec<VerilogExpression>,
-) -> MadeNode<VerilogExpression>
-    ensures { IfOk result
-        (λ made. plain_expression_of made ≡ tree.Replication token (plain_expression_of count) (plain_expressions (plain_expressions_of parts))) }
-{
-    let count = Box::new(alloc, count)?;
-    Ok(VerilogExpression::Replication {
-        token,
-        count,
-        parts,
-    })
-}
-
-pub fn unary_of(
-    alloc: Global,
-    token: usize,
-    operator: VerilogUnaryOperator,
-    operand: VerilogExpression,
-) -> MadeNode<VerilogExpression>
-    ensures { IfOk result (λ made. plain_expression_of made ≡ tree.Unary token operator (plain_expression_of operand)) }
-{
-    let operand = Box::new(alloc, operand)?;
-    Ok(VerilogExpression::Unary {
-        token,
-        operator,
-        operand,
-    })
-}
-
+/// A binary operation.
 pub fn binary_of(
     alloc: Global,
     token: usize,
@@ -175,27 +106,5 @@ pub fn binary_of(
         operator,
         left,
         right,
-    })
-}
-
-/// One of two expressions, by a condition.
-pub fn conditional_of(
-    alloc: Global,
-    token: usize,
-    condition: VerilogExpression,
-    first: VerilogExpression,
-    second: VerilogExpression,
-) -> MadeNode<VerilogExpression>
-    ensures { IfOk result
-        (λ made. plain_expression_of made ≡ tree.Conditional token (plain_expression_of condition) (plain_expression_of first) (plain_expression_of second)) }
-{
-    let condition = Box::new(alloc, condition)?;
-    let first = Box::new(alloc, first)?;
-    let second = Box::new(alloc, second)?;
-    Ok(VerilogExpression::Conditional {
-        token,
-        condition,
-        first,
-        second,
     })
 }

@@ -1,6 +1,6 @@
 //! The nodes of expressions and statements that stand for calls, with what each is.
 
-ghost use Rattle.std.specs.Prelude.{◌≡◌, Some, None, IfOk};
+ghost use Rattle.std.specs.Prelude.{◌≡◌, Some, None, Ok, IfOk};
 ghost use Rattle.syntax_tree.specs.Expressions as source;
 ghost use Rattle.syntax_tree.specs.Expressions.{plain_expression_of};
 ghost use Rattle.statement_parts.specs.Statements as plain;
@@ -35,8 +35,8 @@ pub fn member_of(
 ) -> MadeNode<VerilogExpression>
     ensures { IfOk result (λ made. plain_expression_of made ≡ source.Member token (plain_expression_of scope) name.now) }
 {
-    let name = copied(alloc, name)?;
     let scope = Box::new(alloc, scope)?;
+    let name = copied(alloc, name)?;
     Ok(VerilogExpression::Member { token, scope, name })
 }
 
@@ -155,6 +155,16 @@ pub fn named_block_node(
     Ok(block_node(alloc, token, Some(Identifier { token, name }), body))
 }
 
+/// Something that is kept while something else is made, with that. Fails where that did.
+fn beside<T: Drop, U>(kept: T, made: MadeNode<U>) -> MadeNode<(T, U)>
+    ensures { IfOk result (λ both. (both.0 ≡ kept) × (made ≡ Ok both.1)) }
+{
+    match made {
+        Ok(other) => Ok((kept, other)),
+        Err(refused) => Err(refused),
+    }
+}
+
 /// One branch of an `if`.
 fn one_branch(
     alloc: Global,
@@ -195,8 +205,8 @@ pub fn alternative_node(
 ) -> MadeNode<VerilogStatement>
     ensures { IfOk result (λ made. plain_of made ≡ spec.one_choice token (plain_expression_of condition) (plain_of body) (Some (plain_of otherwise))) }
 {
-    let last = Box::new(alloc, otherwise)?;
-    let branches = one_branch(alloc, condition, body)?;
+    let (kept, branches) = beside(otherwise, one_branch(alloc, condition, body))?;
+    let last = Box::new(alloc, kept)?;
     Ok(VerilogStatement::If {
         token,
         branches,

@@ -9,6 +9,7 @@ ghost use Rattle.call_scopes.specs.Fresh.{IsCallName};
 
 use crate::copied::{CallScopes, made_for, of_design};
 use design_scopes::scoped::Label;
+use ranges::range::VectorRange;
 use scopes::finding::find;
 use scopes::scope::{Entity, Reach, copied};
 use statement_parts::faults::{Lowered, StatementKind, fault};
@@ -102,17 +103,23 @@ impl CallScopes {
         }
     }
 
-    /// Declares a variable of one digit in a scope, and answers its name.
+    /// Declares a variable without a sign in a scope, under a stem and a number, and answers its name.
     #[tactic(auto, using(crate::proofs::OnlyNames::variable_after))]
-    pub fn declare_flag(&mut self, at: usize, token: usize) -> Lowered<Vec<u8>>
-        ensures { IfOk result (λ name. DeclaresVariable self.old.design self.new.design at name.items Entity.Object false None) }
+    pub fn declare_own(
+        &mut self,
+        at: usize,
+        token: usize,
+        stem: &[u8],
+        range: Option<VectorRange>,
+    ) -> Lowered<Vec<u8>>
+        ensures { IfOk result (λ name. DeclaresVariable self.old.design self.new.design at name.items Entity.Object false range) }
     {
-        let name = self.fresh(token, at, b"while")?;
+        let name = self.fresh(token, at, stem)?;
         let label = Label {
             token,
             name: name.as_slice(),
         };
-        match self.design.declare_variable(at, label, false, None) {
+        match self.design.declare_variable(at, label, false, range) {
             Ok(()) => Ok(name),
             Err(why) => Err(of_design(token, why)),
         }

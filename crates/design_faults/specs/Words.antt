@@ -7,6 +7,8 @@ use Rattle.sizing.specs.declared.faults.ExpressionFaultKind.{ExpressionFaultKind
 use Rattle.sizing.specs.declared.faults.ExpressionFaultKind.TheVariants as expression
 use Rattle.design_scopes.specs.declared.faults.Wrong.{Wrong}
 use Rattle.design_scopes.specs.declared.faults.Wrong.TheVariants as design
+use Rattle.design_scopes.specs.declared.faults.ConstantCallWrong.{ConstantCallWrong}
+use Rattle.design_scopes.specs.declared.faults.ConstantCallWrong.TheVariants as call
 use Rattle.statement_parts.specs.declared.faults.StatementKind.{StatementKind}
 use Rattle.statement_parts.specs.declared.faults.StatementKind.TheVariants as statement
 use Rattle.hierarchy.specs.declared.later.LaterConstruct.{LaterConstruct}
@@ -77,9 +79,26 @@ expression_words expression.TooLarge = codes "this replication is too large"
 expression_words expression.TooDeep = codes "expressions stand one within another too deep here"
 expression_words expression.Refused = codes "this isn't supported here"
 
+-- of calls of constant functions (10.4.5)
+abbrev pub constant_call_words : ConstantCallWrong → Text
+constant_call_words call.UnknownFunction = codes "no function of this name is declared in the module itself (10.4.5)"
+constant_call_words call.InGenerateBlock = codes "a function that a generate block declares isn't constant (10.4.5)"
+constant_call_words call.HierarchicalName = codes "a constant function is called by its name alone, and its body has no hierarchical names (10.4.5)"
+constant_call_words call.ArgumentCount = codes "a call has an argument for each that is declared (10.4.4)"
+constant_call_words call.NoInput = codes "a function has an input at least (10.4.4)"
+constant_call_words call.FunctionOutput = codes "a function has no outputs (10.4.4)"
+constant_call_words call.Target = codes "a constant function assigns to its own variables alone, by their names (10.4.5)"
+constant_call_words call.Statement = codes "a function has no delays, events, calls of tasks or nonblocking assignments (10.4.4)"
+constant_call_words call.OwnParameter = codes "a parameter that a constant function declares isn't supported; a localparam is"
+constant_call_words call.SystemTask = codes "of system tasks a constant function may have $display, $write and $strobe, which do nothing there"
+constant_call_words call.InnerConstant = codes "what has to be constant in a constant function calls no function (10.4.5)"
+constant_call_words call.ManySteps = codes "the constant functions of the design take more than 200000 steps"
+constant_call_words call.Deep = codes "more calls, statements and expressions stand in each other here than may"
+
 -- of designs (12)
 abbrev pub design_words : Wrong → Text
 design_words (design.Expression kind) = expression_words kind
+design_words (design.ConstantCall kind) = constant_call_words kind
 design_words design.DeclaredTwice = codes "this name is declared already (12.7)"
 design_words design.Deep = codes "more than 64 scopes stand around this one, as where a module has instances of itself"
 design_words design.ManyScopes = codes "the design has more than 65536 scopes"
@@ -98,9 +117,12 @@ design_words design.EndlessLoop = codes "this generate loop takes more than 6553
 -- of statements (9)
 abbrev pub statement_words : StatementKind → Text
 statement_words (statement.Expression kind) = expression_words kind
+statement_words (statement.Constant wrong) = design_words wrong
 statement_words statement.Target = codes "what is assigned to is no variable by its name; nothing else is supported yet (9.2)"
 statement_words statement.Event = codes "an event is a variable by its name; nothing else is supported yet (9.7.2)"
 statement_words statement.Delay = codes "a delay is a constant of 0 or more; none that varies is supported yet"
+statement_words statement.LongDelay = codes "a delay of more than 4294967295 ticks (19.8)"
+statement_words statement.ScaledTime = codes "the time in a module whose unit isn't the tick (19.8) isn't supported yet"
 statement_words statement.UnknownBlock = codes "no block of this name stands here"
 statement_words statement.Fork = codes "`fork` (9.8.2) isn't supported yet"
 statement_words statement.ImplicitEvents = codes "nothing that varies is read here, so `@*` would wait for ever (9.7.5)"
@@ -144,7 +166,6 @@ form_name form.InitialValue = codes "a declaration's value (6.2.1)"
 form_name form.Fork = codes "`fork` (9.8.2)"
 form_name form.DontCares = codes "`casez` or `casex` (9.5.1)"
 form_name form.Disable = codes "`disable` (10.3)"
-form_name form.ConstantCall = codes "the call of a constant function (10.4.5)"
 form_name form.EventInAssignment = codes "an event inside of an assignment (9.7.7)"
 form_name form.PartTarget = codes "an assignment to a part, or to several variables (9.2)"
 form_name form.Arithmetic = codes "this operator (5.1)"
@@ -202,7 +223,7 @@ own_words fault.DeepBranches = codes "more than 1024 branches or labels here, wi
 own_words fault.ModuleTwice = codes "a second module of this name (12.1)"
 own_words (fault.Design wrong) = design_words wrong
 own_words (fault.Statement kind) = statement_words kind
-own_words fault.Timescales = codes "modules with different units of time aren't supported yet (19.8)"
+own_words fault.Timescales = codes "of the modules some have a `timescale` before them, and others have none (19.8)"
 own_words fault.NoModule = codes "the files have no module"
 own_words fault.NoTopOfName = codes "no module has the name that --top gives"
 own_words fault.NoTop = codes "no module is left as the top one: each has an instance in another one"

@@ -28,7 +28,6 @@ pub(crate) fn form_name(form: LaterForm) -> &'static str
         LaterForm::Fork => "`fork` (9.8.2)",
         LaterForm::DontCares => "`casez` or `casex` (9.5.1)",
         LaterForm::Disable => "`disable` (10.3)",
-        LaterForm::ConstantCall => "the call of a constant function (10.4.5)",
         LaterForm::EventInAssignment => "an event inside of an assignment (9.7.7)",
         LaterForm::PartTarget => "an assignment to a part, or to several variables (9.2)",
         LaterForm::Arithmetic => "this operator (5.1)",

@@ -27,8 +27,6 @@ pub enum LaterForm {
     DontCares,
     /// `disable` (10.3).
     Disable,
-    /// A function's call in a constant expression (10.4.5).
-    ConstantCall,
     /// An event between the value of an assignment and its effect (9.7.7).
     EventInAssignment,
     /// An assignment to a part of a variable, to a word of an array, or to several variables (9.2).
@@ -71,7 +69,7 @@ pub enum WholeFault {
     Design(Wrong),
     /// Something is wrong with a statement (9).
     Statement(StatementKind),
-    /// Modules with different units of time, which aren't supported yet (19.8).
+    /// Modules with units of time, and others without (19.8).
     Timescales,
     /// The files have no module.
     NoModule,

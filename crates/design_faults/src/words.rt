@@ -146,7 +146,7 @@ fn sentence_of(fault: WholeFault) -> Sentence
         WholeFault::Design(wrong) => plain(design_words(wrong)),
         WholeFault::Statement(kind) => plain(statement_words(kind)),
         WholeFault::Timescales => {
-            plain("modules with different units of time aren't supported yet (19.8)")
+            plain("of the modules some have a `timescale` before them, and others have none (19.8)")
         }
         WholeFault::NoModule => plain("the files have no module"),
         WholeFault::NoTopOfName => plain("no module has the name that --top gives"),

@@ -3,7 +3,7 @@
 ghost use Rattle.std.specs.Prelude.{◌≡◌};
 ghost use Rattle.design_faults.specs.Words as spec;
 
-use design_scopes::faults::Wrong;
+use design_scopes::faults::{ConstantCallWrong, Wrong};
 use preprocess::fault::TextFaultKind as TextKind;
 use sizing::faults::ExpressionFaultKind;
 use statement_parts::faults::StatementKind;
@@ -32,12 +32,56 @@ pub(crate) fn text_words(kind: TextKind) -> &'static str
     }
 }
 
+/// What is said of the call of a constant function.
+fn constant_call_words(kind: ConstantCallWrong) -> &'static str
+    ensures { result.now ≡ spec.constant_call_words kind }
+{
+    match kind {
+        ConstantCallWrong::UnknownFunction => {
+            "no function of this name is declared in the module itself (10.4.5)"
+        }
+        ConstantCallWrong::InGenerateBlock => {
+            "a function that a generate block declares isn't constant (10.4.5)"
+        }
+        ConstantCallWrong::HierarchicalName => {
+            "a constant function is called by its name alone, and its body has no hierarchical names (10.4.5)"
+        }
+        ConstantCallWrong::ArgumentCount => {
+            "a call has an argument for each that is declared (10.4.4)"
+        }
+        ConstantCallWrong::NoInput => { "a function has an input at least (10.4.4)" }
+        ConstantCallWrong::FunctionOutput => { "a function has no outputs (10.4.4)" }
+        ConstantCallWrong::Target => {
+            "a constant function assigns to its own variables alone, by their names (10.4.5)"
+        }
+        ConstantCallWrong::Statement => {
+            "a function has no delays, events, calls of tasks or nonblocking assignments (10.4.4)"
+        }
+        ConstantCallWrong::OwnParameter => {
+            "a parameter that a constant function declares isn't supported; a localparam is"
+        }
+        ConstantCallWrong::SystemTask => {
+            "of system tasks a constant function may have $display, $write and $strobe, which do nothing there"
+        }
+        ConstantCallWrong::InnerConstant => {
+            "what has to be constant in a constant function calls no function (10.4.5)"
+        }
+        ConstantCallWrong::ManySteps => {
+            "the constant functions of the design take more than 200000 steps"
+        }
+        ConstantCallWrong::Deep => {
+            "more calls, statements and expressions stand in each other here than may"
+        }
+    }
+}
+
 /// What is said of a design.
 pub(crate) fn design_words(wrong: Wrong) -> &'static str
     ensures { result.now ≡ spec.design_words wrong }
 {
     match wrong {
         Wrong::Expression(kind) => expression_words(kind),
+        Wrong::ConstantCall(kind) => constant_call_words(kind),
         Wrong::DeclaredTwice => "this name is declared already (12.7)",
         Wrong::Deep =>
             "more than 64 scopes stand around this one, as where a module has instances of itself",
@@ -65,12 +109,16 @@ pub(crate) fn statement_words(kind: StatementKind) -> &'static str
 {
     match kind {
         StatementKind::Expression(kind) => expression_words(kind),
+        StatementKind::Constant(wrong) => design_words(wrong),
         StatementKind::Target =>
             "what is assigned to is no variable by its name; nothing else is supported yet (9.2)",
         StatementKind::Event =>
             "an event is a variable by its name; nothing else is supported yet (9.7.2)",
         StatementKind::Delay =>
             "a delay is a constant of 0 or more; none that varies is supported yet",
+        StatementKind::LongDelay => "a delay of more than 4294967295 ticks (19.8)",
+        StatementKind::ScaledTime =>
+            "the time in a module whose unit isn't the tick (19.8) isn't supported yet",
         StatementKind::UnknownBlock => "no block of this name stands here",
         StatementKind::Fork => "`fork` (9.8.2) isn't supported yet",
         StatementKind::ImplicitEvents =>

@@ -17,7 +17,7 @@ use Rattle.syntax_tree.specs.declared.declarations.PortKind.TheVariants as port
 use Rattle.syntax_tree.specs.declared.declarations.ValueType.{ValueType}
 use Rattle.syntax_tree.specs.declared.declarations.VariableKind.{VariableKind}
 use Rattle.syntax_tree.specs.declared.declarations.VariableKind.TheVariants as kind
-use Rattle.design_scopes.specs.Places.{names_in_scope}
+use Rattle.design_scopes.specs.Places.{constant_names}
 use Rattle.design_scopes.specs.Values.{IsVariableType}
 use Rattle.design_scopes.specs.declared.variables.VariableType.{VariableType}
 use Rattle.design_scopes.specs.declared.faults.Wrong.{Wrong}
@@ -26,9 +26,9 @@ use Rattle.design_scopes.specs.declared.faults.DesignFault.{DesignFault}
 use Rattle.design_scopes.specs.declared.faults.DesignFault.TheVariants as fault
 use Rattle.design_scopes.specs.declared.scoped.ScopedDesign.{ScopedDesign}
 
--- what names mean at a scope of a design
+-- what names mean at a scope of a design in what it declares next
 abbrev pub names_at_scope : ScopedDesign → ℕ → Names
-names_at_scope d scope = names_in_scope d.tree.scopes.items d.objects.items scope
+names_at_scope d scope = constant_names d.tree.scopes.items d.objects.items d.calls.items scope
 
 -- the full name of what a scope of a design declares
 abbrev pub full_name_at : ScopedDesign → ℕ → NameText → NameText

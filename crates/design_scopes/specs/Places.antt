@@ -1,5 +1,5 @@
 -- What names mean at a scope of a design (IEEE 1364-2005, 12.5 to 12.7).
-use Rattle.std.specs.Prelude.{ℕ, ℤ, if◌then◌else◌, List, Option, None, Some, slice_get, option_and_then}
+use Rattle.std.specs.Prelude.{ℕ, ℤ, ◌==◌, if◌then◌else◌, List, Option, None, Some, slice_get, position, option_and_then, option_map}
 use Rattle.std.specs.Str.{bytes_eq}
 use Rattle.scopes.specs.declared.scope.Entity.{Entity}
 use Rattle.scopes.specs.declared.scope.Entity.TheVariants as entity
@@ -10,6 +10,7 @@ use Rattle.scopes.specs.Names.{found, first_scope, next_scope}
 use Rattle.sizing.specs.declared.environment.Object.{Object}
 use Rattle.sizing.specs.Names.{Names}
 use Rattle.design_scopes.specs.declared.places.Turn.{Turn}
+use Rattle.design_scopes.specs.declared.call_values.CallValue.{CallValue}
 use Rattle.design_scopes.specs.declared.places.ScopePlace.{ScopePlace}
 
 -- the number of an object, where a name stands for one
@@ -54,12 +55,24 @@ object_from place within name =
     or_object (turn_object place.turn within name)
     (object_at place.objects.now (object_number (entity_from place.tree.now.scopes.items place.scope within name)))
 
+-- what holds the value of the call at a token, where it is known
+abbrev pub call_among : List CallValue → ℕ → Option Object
+call_among calls token = option_map (λ call. call.object) (option_and_then (slice_get calls) (position (λ call. call.token == token) calls))
+
 -- what names mean at a place
 abbrev pub means : ScopePlace → Names
 means place = record {
   scope = λ within name index. scope_from place.tree.now.scopes.items place.scope within name index;
   object = λ within name. object_from place within name;
-  call = λ token. None;
+  call = λ token. call_among place.calls.now token;
+}
+
+-- what names mean at a scope, for constant expressions the values of whose calls are known
+abbrev pub constant_names : List NameScope → List Object → List CallValue → ℕ → Names
+constant_names scopes objects calls place = record {
+  scope = λ within name index. scope_from scopes place within name index;
+  object = λ within name. object_at objects (object_number (entity_from scopes place within name));
+  call = λ token. call_among calls token;
 }
 
 -- what names mean at a scope

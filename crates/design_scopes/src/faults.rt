@@ -7,10 +7,43 @@ use scopes::fault::ScopeFault;
 use sizing::faults::{ExpressionFault, ExpressionFaultKind};
 use std::alloc::{AllocError, AllocFailed};
 
+/// What is wrong with the call of a constant function (10.4.5).
+#[derive(Clone, Copy)]
+pub enum ConstantCallWrong {
+    /// The module has no function of this name.
+    UnknownFunction,
+    /// The function is declared in a generate block.
+    InGenerateBlock,
+    /// The function is named by a hierarchical name, or its body has one.
+    HierarchicalName,
+    /// Another number of arguments than the function has.
+    ArgumentCount,
+    /// A function without an input (10.4.4).
+    NoInput,
+    /// A function with an output (10.4.4).
+    FunctionOutput,
+    /// The body assigns to what is no variable of the function.
+    Target,
+    /// The body has a statement that a function may not have (10.4.4).
+    Statement,
+    /// The function declares a parameter that other scopes may give a value.
+    OwnParameter,
+    /// The body calls a system task that isn't passed over.
+    SystemTask,
+    /// A constant expression in the body has a call.
+    InnerConstant,
+    /// The constant functions of the design take more than 200,000 steps.
+    ManySteps,
+    /// Calls, statements and expressions stand too deep in each other.
+    Deep,
+}
+
 /// What is wrong at a token.
 #[derive(Clone, Copy)]
 pub enum Wrong {
     Expression(ExpressionFaultKind),
+    /// The call of a constant function.
+    ConstantCall(ConstantCallWrong),
     /// The scope declares the name already (12.7).
     DeclaredTwice,
     /// More scopes stand around than 64, as where a module has instances of itself.

@@ -5,7 +5,7 @@ ghost use Rattle.design_scopes.specs.Blocks as spec;
 ghost use Rattle.design_scopes.specs.Blocks.{IsBlockName, IsFreeName};
 
 use crate::faults::{DesignMade, Wrong, refuse};
-use crate::places::{ScopePlace, Turn, assigned_at, value_at};
+use crate::places::{ScopePlace, Turn};
 use crate::scoped::{Label, ScopedDesign};
 use crate::variables::range_of_width;
 use logic4::bits::Bits;
@@ -13,22 +13,21 @@ use logic4::digit::Truth;
 use logic4::size::Size;
 use scopes::finding::find;
 use scopes::scope::{Entity, Reach, copied};
-use scopes::tree::MAX_SCOPES;
 use shaped_trees::constants::{Constant, integer};
 use shaped_trees::evaluation::evaluate;
 use shaped_trees::shape::Shape;
-use sizing::environment::{Object, ObjectValue};
+use sizing::environment::{Environment, Object, ObjectValue};
 use sizing::faults::ExpressionFaultKind;
 use sizing::lowering::{lower, typed_expression};
 use std::alloc::{AllocError, Global};
 use syntax_tree::expressions::{Identifier, VerilogExpression};
-use syntax_tree::modules::{GenerateBlock, GenerateCase, GenerateIf, GenerateLoop};
+use syntax_tree::modules::{GenerateBlock, GenerateLoop};
 
 /// How many zeros may stand before the number in the name of a block without one.
 const MAX_ZEROS: usize = 16;
 
 /// The size and the sign of the variable of a generate loop (12.4.1).
-fn loop_shape() -> Shape {
+pub fn loop_shape() -> Shape {
     Shape {
         width: Size::new(32),
         signed: true,
@@ -36,7 +35,7 @@ fn loop_shape() -> Shape {
 }
 
 /// Whether a constant is true (9.4).
-fn holds(value: Constant) -> bool {
+pub fn holds(value: Constant) -> bool {
     match value.digits.truth() {
         Truth::True => true,
         Truth::False => false,
@@ -45,14 +44,14 @@ fn holds(value: Constant) -> bool {
 }
 
 /// The size and the sign of an expression at a place.
-fn shape_at(alloc: Global, place: &ScopePlace<'_>, e: &VerilogExpression) -> DesignMade<Shape> {
+fn shape_at<E: Environment>(alloc: Global, place: &E, e: &VerilogExpression) -> DesignMade<Shape> {
     Ok(typed_expression(alloc, place, e)?.shape())
 }
 
 /// A size and a sign joined with those of labels.
-fn joined_labels(
+fn joined_labels<E: Environment>(
     alloc: Global,
-    place: &ScopePlace<'_>,
+    place: &E,
     around: Shape,
     labels: &[VerilogExpression],
 ) -> DesignMade<Shape> {
@@ -64,21 +63,25 @@ fn joined_labels(
     Ok(shape)
 }
 
-/// The size and the sign at which a case generate construct compares its selector with its labels: those of all of them together
-/// (9.5, 12.4.2).
-fn case_shape(alloc: Global, place: &ScopePlace<'_>, source: &GenerateCase) -> DesignMade<Shape> {
-    let mut shape = shape_at(alloc, place, &source.selector)?;
-    for item in &source.items {
-        let wider = joined_labels(alloc, place, shape, item.labels.as_slice())?;
+/// The size and the sign at which a `case` compares its selector with the labels of its items: those of all of them together (9.5).
+fn case_shape<E: Environment>(
+    alloc: Global,
+    place: &E,
+    selector: &VerilogExpression,
+    items: &[&[VerilogExpression]],
+) -> DesignMade<Shape> {
+    let mut shape = shape_at(alloc, place, selector)?;
+    for labels in items {
+        let wider = joined_labels(alloc, place, shape, labels)?;
         shape = wider;
     }
     Ok(shape)
 }
 
 /// The digits of a constant expression at a place, at a size and a sign. What names a variable is refused at a token.
-fn digits_at(
+fn digits_at<E: Environment>(
     alloc: Global,
-    place: &ScopePlace<'_>,
+    place: &E,
     token: usize,
     e: &VerilogExpression,
     shape: &Shape,
@@ -90,8 +93,45 @@ fn digits_at(
     }
 }
 
+/// Whether one of the labels has the selector's digits, at the size and the sign of all of them.
+fn is_chosen<E: Environment>(
+    alloc: Global,
+    place: &E,
+    token: usize,
+    selector: (&Bits, &Shape),
+    labels: &[VerilogExpression],
+) -> DesignMade<bool> {
+    let (sought, shape) = selector;
+    for label in labels {
+        let digits = digits_at(alloc, place, token, label, shape)?;
+        if digits == *sought {
+            return Ok(true);
+        }
+    }
+    Ok(false)
+}
+
+/// The place of the item that a `case` at a token chooses by constants: of the first of which a label is the selector, digit for digit
+/// at the size and the sign of all of them, or else of the default, which has no label (9.5, 12.4.2).
+pub fn chosen_labels<E: Environment>(
+    alloc: Global,
+    place: &E,
+    token: usize,
+    selector: &VerilogExpression,
+    items: &[&[VerilogExpression]],
+) -> DesignMade<Option<usize>> {
+    let shape = case_shape(alloc, place, selector, items)?;
+    let sought = digits_at(alloc, place, token, selector, &shape)?;
+    for (number, labels) in items.iter().enumerate() {
+        if is_chosen(alloc, place, token, (&sought, &shape), labels)? {
+            return Ok(Some(number));
+        }
+    }
+    Ok(items.iter().position(|labels| labels.is_empty()))
+}
+
 /// The variable of a generate loop with a value, as an object.
-fn loop_object(value: Constant) -> Object {
+pub fn loop_object(value: Constant) -> Object {
     Object {
         signed: true,
         range: range_of_width(32),
@@ -132,8 +172,8 @@ pub fn is_direct(block: &GenerateBlock, token: usize) -> bool {
 }
 
 impl ScopedDesign {
-    /// The place of a scope in the head of a generate loop.
-    fn place_in_loop<'p>(
+    /// The place of a scope in the head of a generate loop, where the variable has a value.
+    pub fn place_in_loop<'p>(
         &'p self,
         scope: usize,
         name: &'p [u8],
@@ -144,11 +184,16 @@ impl ScopedDesign {
             objects: self.objects.as_slice(),
             scope,
             turn: Some(Turn { name, object }),
+            calls: self.calls.as_slice(),
         }
     }
 
     /// The variable of a generate loop, which has to be declared as one.
-    fn loop_variable<'t>(&self, scope: usize, source: &'t GenerateLoop) -> DesignMade<Label<'t>> {
+    pub fn loop_variable<'t>(
+        &self,
+        scope: usize,
+        source: &'t GenerateLoop,
+    ) -> DesignMade<Label<'t>> {
         let label = loop_label(&source.start.target, source.start.token)?;
         let next = loop_label(&source.step.target, source.step.token)?;
         let found = find(&self.tree, Reach::Instance, scope, label.name);
@@ -156,28 +201,6 @@ impl ScopedDesign {
             return refuse(label.token, Wrong::LoopVariable);
         }
         Ok(label)
-    }
-
-    /// The values of the variable of a generate loop in its turns (12.4.1).
-    fn loop_values(
-        &self,
-        scope: usize,
-        source: &GenerateLoop,
-        name: &[u8],
-    ) -> DesignMade<Vec<Constant>> {
-        let mut found = Vec::new(self.alloc);
-        let first = &source.start.value;
-        let mut value = assigned_at(self.alloc, &self.place(scope), first, loop_shape())?;
-        for _turn in 0..MAX_SCOPES {
-            let object = loop_object(value);
-            let place = self.place_in_loop(scope, name, &object);
-            if !holds(value_at(self.alloc, &place, &source.condition)?) {
-                return Ok(found);
-            }
-            found.push(value)?;
-            value = assigned_at(self.alloc, &place, &source.step.value, loop_shape())?;
-        }
-        refuse(source.token, Wrong::EndlessLoop)
     }
 
     /// The indices of the blocks of a generate loop.
@@ -239,55 +262,6 @@ impl ScopedDesign {
         Ok(())
     }
 
-    /// Whether one of the labels has the selector's digits, at the size and the sign of all of them.
-    fn is_chosen(
-        &self,
-        scope: usize,
-        token: usize,
-        selector: &Bits,
-        shape: &Shape,
-        labels: &[VerilogExpression],
-    ) -> DesignMade<bool> {
-        let place = self.place(scope);
-        for label in labels {
-            let digits = digits_at(self.alloc, &place, token, label, shape)?;
-            if digits == *selector {
-                return Ok(true);
-            }
-        }
-        Ok(false)
-    }
-
-    /// The place of the item that a case generate construct chooses: of the first of which a label is the selector, digit for digit at
-    /// the size and the sign of all of them, or else of the default (9.5, 12.4.2).
-    pub fn chosen_item(&self, scope: usize, source: &GenerateCase) -> DesignMade<Option<usize>> {
-        let token = source.token;
-        let shape = case_shape(self.alloc, &self.place(scope), source)?;
-        let selector = digits_at(
-            self.alloc,
-            &self.place(scope),
-            token,
-            &source.selector,
-            &shape,
-        )?;
-        for (place, item) in source.items.iter().enumerate() {
-            if self.is_chosen(scope, token, &selector, &shape, item.labels.as_slice())? {
-                return Ok(Some(place));
-            }
-        }
-        Ok(source.items.iter().position(|item| item.labels.is_empty()))
-    }
-
-    /// The place of the branch of an if generate construct whose condition is the first that is true (12.4.2).
-    pub fn chosen_branch(&self, scope: usize, source: &GenerateIf) -> DesignMade<Option<usize>> {
-        for (place, branch) in source.branches.iter().enumerate() {
-            if holds(value_at(self.alloc, &self.place(scope), &branch.condition)?) {
-                return Ok(Some(place));
-            }
-        }
-        Ok(None)
-    }
-
     /// Opens the scope of a generate block.
     pub fn open_generate_block(
         &mut self,
@@ -304,16 +278,16 @@ impl ScopedDesign {
     }
 
     /// Opens the scopes of the blocks of a loop generate construct, one for each turn, in which its variable has the turn's value
-    /// (12.4.1), and answers the number of the first, and how many they are.
+    /// (12.4.1), and answers the number of the first.
     pub fn open_turns(
         &mut self,
         scope: usize,
         source: &GenerateLoop,
         number: usize,
-    ) -> DesignMade<(usize, usize)> {
-        let variable = self.loop_variable(scope, source)?;
-        let values = self.loop_values(scope, source, variable.name)?;
-        let indices = self.loop_indices(values.as_slice(), variable.token)?;
+        variable: Label<'_>,
+        values: &[Constant],
+    ) -> DesignMade<usize> {
+        let indices = self.loop_indices(values, variable.token)?;
         let body = &source.body;
         let name = self.block_name(scope, body.token, &body.name, number)?;
         let label = Label {
@@ -321,7 +295,7 @@ impl ScopedDesign {
             name: name.as_slice(),
         };
         let first = self.open_several(scope, label, None, indices.as_slice())?;
-        self.declare_turns(first, variable, values.as_slice())?;
-        Ok((first, values.len()))
+        self.declare_turns(first, variable, values)?;
+        Ok(first)
     }
 }

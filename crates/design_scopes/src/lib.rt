@@ -2,7 +2,8 @@
 //!
 //! 1. `faults` says what may be wrong with a design, and where.
 //! 2. `scoped` is what is made: scopes, and the objects that they declare.
-//! 3. `places` tells what names mean at a scope, for the expressions that stand there.
+//! 3. `places` tells what names mean at a scope, for the expressions that stand there, and `call_values` has what the calls of constant
+//!    functions in them are worth.
 //! 4. `variables` and `parameter_types` say what declarations declare, `arrays` and `paths` what ranges and hierarchical names stand
 //!    for, and `generates` which blocks generate constructs have.
 //! 5. `distinct` refuses two variables with one full name.
@@ -11,6 +12,7 @@
 #![tactic(auto)]
 
 pub mod arrays;
+pub mod call_values;
 pub mod distinct;
 pub mod faults;
 pub mod generates;

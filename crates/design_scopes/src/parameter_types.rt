@@ -8,12 +8,13 @@ ghost use Rattle.design_scopes.specs.Values.{IsNotWide, IsOwnValue, IsParameter,
 use crate::faults::DesignMade;
 use crate::places::{assigned_at, value_at};
 use crate::scoped::ScopedDesign;
-use crate::variables::range_of_width;
+use crate::variables::{range_of_width, vector_range_at};
 use logic4::size::Size;
 use ranges::range::VectorRange;
 use shaped_trees::constants::{Constant, converted};
 use shaped_trees::shape::Shape;
-use sizing::environment::{Object, ObjectValue};
+use sizing::environment::{Environment, Object, ObjectValue};
+use std::alloc::Global;
 use syntax_tree::declarations::{ParameterDeclaration, ParameterKind};
 use syntax_tree::expressions::VerilogExpression;
 
@@ -60,61 +61,78 @@ fn object_of(found: ParameterType, value: &Constant) -> Object
     }
 }
 
+/// The type that the declaration of a parameter says, if it says one (4.10.1).
+#[tactic(auto, using(crate::proofs::Bounds::stated_told))]
+fn declared_type<E: Environment>(
+    alloc: Global,
+    place: &E,
+    source: &ParameterDeclaration,
+) -> DesignMade<Option<ParameterType>>
+    ensures { IfOk result (λ found. IsStatedType (E.means place.now) source.now.kind source.now.value_type found) }
+{
+    match source.kind {
+        ParameterKind::Integer => Ok(ranged_type(range_of_width(32), true)),
+        ParameterKind::Time => Ok(ranged_type(range_of_width(64), false)),
+        ParameterKind::Unstated => {
+            let range = vector_range_at(alloc, place, &source.value_type.range)?;
+            Ok(ranged_type(range, source.value_type.signed))
+        }
+    }
+}
+
+/// The value of a parameter's own declaration, in its type, if it has one.
+#[tactic(auto, using(crate::proofs::Bounds::own_value_told, crate::proofs::Bounds::assigned_value_told))]
+fn own_value<E: Environment>(
+    alloc: Global,
+    place: &E,
+    declared: &Option<ParameterType>,
+    e: &VerilogExpression,
+) -> DesignMade<Constant>
+    ensures { IfOk result (λ value. IsOwnValue (E.means place.now) declared.now (plain_expression_of e.now) value) }
+{
+    match declared {
+        Some(found) => assigned_at(alloc, place, e, found.shape),
+        None => value_at(alloc, place, e),
+    }
+}
+
+/// The value of a parameter: the one that it is given from elsewhere, or that of its declaration (12.2).
+fn parameter_value<E: Environment>(
+    alloc: Global,
+    place: &E,
+    declared: &Option<ParameterType>,
+    given: Option<Constant>,
+    e: &VerilogExpression,
+) -> DesignMade<Constant>
+    ensures { IfOk result (λ value. IsParameterValue (E.means place.now) declared.now given (plain_expression_of e.now) value) }
+{
+    match given {
+        Some(value) => Ok(value),
+        None => own_value(alloc, place, declared, e),
+    }
+}
+
+/// A parameter with the value that it is given from elsewhere, or else with that of its declaration, in the type that the
+/// declaration says, or else in that of the value (4.10.1, 12.2).
+#[tactic(auto, using(crate::proofs::Bounds::parameter_told))]
+pub fn parameter_at<E: Environment>(
+    alloc: Global,
+    place: &E,
+    source: &ParameterDeclaration,
+    given: Option<Constant>,
+    e: &VerilogExpression,
+) -> DesignMade<Object>
+    ensures { IfOk result (λ o. IsParameter (E.means place.now) source.now given (plain_expression_of e.now) o) }
+{
+    let declared = declared_type(alloc, place, source)?;
+    let value = parameter_value(alloc, place, &declared, given, e)?;
+    let found = declared.unwrap_or(value_type(source.value_type.signed, &value));
+    Ok(object_of(found, &value))
+}
+
 impl ScopedDesign {
-    /// The type that the declaration of a parameter says, if it says one (4.10.1).
-    #[tactic(auto, using(crate::proofs::Bounds::stated_told))]
-    fn declared_type(
-        &self,
-        scope: usize,
-        source: &ParameterDeclaration,
-    ) -> DesignMade<Option<ParameterType>>
-        ensures { IfOk result (λ found. IsStatedType (names_at_scope self.now scope) source.now.kind source.now.value_type found) }
-    {
-        match source.kind {
-            ParameterKind::Integer => Ok(ranged_type(range_of_width(32), true)),
-            ParameterKind::Time => Ok(ranged_type(range_of_width(64), false)),
-            ParameterKind::Unstated => {
-                let range = self.vector_range(scope, &source.value_type.range)?;
-                Ok(ranged_type(range, source.value_type.signed))
-            }
-        }
-    }
-
-    /// The value of a parameter's own declaration, in its type, if it has one.
-    #[tactic(auto, using(crate::proofs::Bounds::own_value_told, crate::proofs::Bounds::assigned_value_told))]
-    fn own_value(
-        &self,
-        scope: usize,
-        declared: &Option<ParameterType>,
-        e: &VerilogExpression,
-    ) -> DesignMade<Constant>
-        ensures { IfOk result (λ value. IsOwnValue (names_at_scope self.now scope) declared.now (plain_expression_of e.now) value) }
-    {
-        let place = self.place(scope);
-        match declared {
-            Some(found) => assigned_at(self.alloc, &place, e, found.shape),
-            None => value_at(self.alloc, &place, e),
-        }
-    }
-    /// The value of a parameter: the one that it is given from elsewhere, or that of its declaration (12.2).
-    fn parameter_value(
-        &self,
-        scope: usize,
-        declared: &Option<ParameterType>,
-        given: Option<Constant>,
-        e: &VerilogExpression,
-    ) -> DesignMade<Constant>
-        ensures { IfOk result (λ value. IsParameterValue (names_at_scope self.now scope) declared.now given (plain_expression_of e.now) value) }
-    {
-        match given {
-            Some(value) => Ok(value),
-            None => self.own_value(scope, declared, e),
-        }
-    }
-
-    /// A parameter with the value that it is given from elsewhere, or else with that of its declaration, in the type that the
-    /// declaration says, or else in that of the value (4.10.1, 12.2).
-    #[tactic(auto, using(crate::proofs::Bounds::parameter_told))]
+    /// A parameter of a scope with the value that it is given from elsewhere, or else with that of its declaration, in the type that
+    /// the declaration says, or else in that of the value (4.10.1, 12.2).
     pub fn parameter(
         &self,
         scope: usize,
@@ -124,9 +142,6 @@ impl ScopedDesign {
     ) -> DesignMade<Object>
         ensures { IfOk result (λ o. IsParameter (names_at_scope self.now scope) source.now given (plain_expression_of e.now) o) }
     {
-        let declared = self.declared_type(scope, source)?;
-        let value = self.parameter_value(scope, &declared, given, e)?;
-        let found = declared.unwrap_or(value_type(source.value_type.signed, &value));
-        Ok(object_of(found, &value))
+        parameter_at(self.alloc, &self.constant_place(scope), source, given, e)
     }
 }

@@ -35,7 +35,7 @@ impl ScopedDesign {
             }
             VerilogExpression::Index { token, base, index } => {
                 let mut path = self.path_from(scope, *token, base)?;
-                let Some(number) = number_at(self.alloc, &self.place(scope), index)? else {
+                let Some(number) = number_at(self.alloc, &self.constant_place(scope), index)? else {
                     return refuse(*token, Wrong::UnknownParameter);
                 };
                 path.push_str(format!(in self.alloc; "[{number}]")?.as_str())?;

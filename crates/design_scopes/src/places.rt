@@ -1,12 +1,13 @@
 //! What names mean at a scope.
 
-ghost use Rattle.std.specs.Prelude.{◌≡◌, option_map, IfOk};
+ghost use Rattle.std.specs.Prelude.{◌≡◌, ◌==◌, option_map, position, IfOk};
 ghost use Rattle.syntax_tree.specs.Expressions.{plain_expression_of};
 ghost use Rattle.sizing.specs.Meanings.{meaning};
 ghost use Rattle.sizing.specs.Results.{IsConstantOf, IsAssigned};
 ghost use Rattle.design_scopes.specs.Places as spec;
 ghost use Rattle.design_scopes.specs.Values.{IsNumberOf};
 
+use crate::call_values::CallValue;
 use crate::faults::DesignMade;
 use scopes::finding::{find, first_scope, next_scope};
 use scopes::scope::{Entity, Reach};
@@ -33,6 +34,25 @@ pub struct ScopePlace<'p> {
     pub scope: usize,
     /// The turn of a generate loop, where the expression stands in its head.
     pub turn: Option<Turn<'p>>,
+    /// The values of the constant functions' calls in the expressions.
+    pub calls: &'p [CallValue],
+}
+
+/// The place among some of the value of the call at a token.
+fn call_place(calls: &[CallValue], token: usize) -> Option<usize>
+    ensures { result ≡ position (λ call. call.token == token) calls.now }
+{
+    calls.iter().position(|call| call.token == token)
+}
+
+/// The value of the call at a token, where it is known.
+pub fn call_among(calls: &[CallValue], token: usize) -> Option<&Object>
+    ensures { option_map (λ o. o.now) result ≡ spec.call_among calls.now token }
+{
+    match calls.get(call_place(calls, token)?) {
+        Some(call) => Some(&call.object),
+        None => None,
+    }
 }
 
 /// The number of an object, where a name stands for one.
@@ -99,42 +119,42 @@ impl Environment for ScopePlace<'_> {
         object_at(self.objects, object_number(self.entity(within, name)))
     }
 
-    fn call(&self, _token: usize) -> Option<&Object> {
-        None
+    fn call(&self, token: usize) -> Option<&Object> {
+        call_among(self.calls, token)
     }
 }
 
 /// The value of a constant expression at a place.
-pub fn value_at(
+pub fn value_at<E: Environment>(
     alloc: Global,
-    place: &ScopePlace<'_>,
+    place: &E,
     e: &VerilogExpression,
 ) -> DesignMade<Constant>
-    ensures { IfOk result (λ value. IsConstantOf (meaning (spec.means place.now) (plain_expression_of e.now)) value) }
+    ensures { IfOk result (λ value. IsConstantOf (meaning (E.means place.now) (plain_expression_of e.now)) value) }
 {
     Ok(constant(alloc, place, e)?)
 }
 
 /// The value of a constant expression at a place, as it is assigned to what has this size and sign.
-pub fn assigned_at(
+pub fn assigned_at<E: Environment>(
     alloc: Global,
-    place: &ScopePlace<'_>,
+    place: &E,
     e: &VerilogExpression,
     shape: Shape,
 ) -> DesignMade<Constant>
-    ensures { IfOk result (λ value. IsAssigned (meaning (spec.means place.now) (plain_expression_of e.now)) shape value) }
+    ensures { IfOk result (λ value. IsAssigned (meaning (E.means place.now) (plain_expression_of e.now)) shape value) }
 {
     Ok(constant_assigned(alloc, place, e, shape)?)
 }
 
 /// The number that a constant expression stands for at a place, if it stands for one.
 #[tactic(auto, using(crate::proofs::Bounds::number_told))]
-pub fn number_at(
+pub fn number_at<E: Environment>(
     alloc: Global,
-    place: &ScopePlace<'_>,
+    place: &E,
     e: &VerilogExpression,
 ) -> DesignMade<Option<i64>>
-    ensures { IfOk result (λ found. IsNumberOf (spec.means place.now) (plain_expression_of e.now) found) }
+    ensures { IfOk result (λ found. IsNumberOf (E.means place.now) (plain_expression_of e.now) found) }
 {
     Ok(integer(value_at(alloc, place, e)?))
 }

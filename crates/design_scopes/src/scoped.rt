@@ -5,6 +5,7 @@ ghost use Rattle.scopes.specs.Faults.{IsDeclareFault, IsScopeFault};
 ghost use Rattle.scopes.specs.Trees.{Declares, ScopesGrow, Opens, OpensSeveral};
 ghost use Rattle.design_scopes.specs.Designs as spec;
 
+use crate::call_values::CallValue;
 use crate::faults::{DesignFault, DesignMade, Wrong, refuse, scope_fault};
 use ranges::range::VectorRange;
 use scopes::names::full_name;
@@ -54,6 +55,8 @@ pub struct ScopedDesign {
     pub processes: Vec<PlacedProcess>,
     /// The scopes of functions and tasks, in the order in which they are opened.
     pub routines: Vec<PlacedRoutine>,
+    /// The values of the constant functions' calls in what is declared next (10.4.5).
+    pub calls: Vec<CallValue>,
 }
 
 /// The name of an identifier.
@@ -79,6 +82,7 @@ impl ScopedDesign {
             tokens: Vec::new(alloc),
             processes: Vec::new(alloc),
             routines: Vec::new(alloc),
+            calls: Vec::new(alloc),
         })
     }
 

@@ -14,6 +14,8 @@ use crate::scoped::{ScopedDesign, label_of};
 use logic4::bits::MAX_WIDTH;
 use ranges::range::VectorRange;
 use scopes::scope::Entity;
+use sizing::environment::Environment;
+use std::alloc::Global;
 use syntax_tree::declarations::{
     Declarator, EventDeclaration, GenvarDeclaration, PortDeclaration, PortKind, ValueType,
     VariableDeclaration, VariableKind, VerilogRange as SourceRange,
@@ -47,13 +49,73 @@ fn is_fit(range: VectorRange) -> bool
 }
 
 /// What an argument is that is declared so: a register, unless it is said to be another variable (10.2.1, 10.4.1).
-fn argument_kind(kind: PortKind) -> VariableKind
+pub fn argument_kind(kind: PortKind) -> VariableKind
     ensures { result ≡ spec.argument_kind kind }
 {
     match kind {
         PortKind::Variable(kind) => kind,
         PortKind::Net(_) => VariableKind::Register,
         PortKind::Unstated => VariableKind::Register,
+    }
+}
+
+/// The numbers of a range (4.3.1).
+#[tactic(auto, using(crate::proofs::Bounds::range_told))]
+pub fn bounds_at<E: Environment>(
+    alloc: Global,
+    place: &E,
+    range: &SourceRange,
+) -> DesignMade<VectorRange>
+    ensures { IfOk result (λ found. IsRangeOf (E.means place.now) range.now found) }
+{
+    let most = number_at(alloc, place, &range.most)?;
+    let least = number_at(alloc, place, &range.least)?;
+    match (most, least) {
+        (Some(most), Some(least)) => Ok(VectorRange { most, least }),
+        _ => refuse(range.token, Wrong::Range),
+    }
+}
+
+/// The range of a vector, if it has one.
+pub fn vector_range_at<E: Environment>(
+    alloc: Global,
+    place: &E,
+    range: &Option<SourceRange>,
+) -> DesignMade<Option<VectorRange>>
+    ensures { IfOk result (λ found. IsVectorRange (E.means place.now) range.now found) }
+{
+    let Some(source) = range else {
+        return Ok(None);
+    };
+    let found = bounds_at(alloc, place, source)?;
+    if !is_fit(found) {
+        return refuse(source.token, Wrong::Wide);
+    }
+    Ok(Some(found))
+}
+
+/// The type of variables of a kind: that of `integer` is signed and has 32 digits, that of `time` has 64 (4.8).
+pub fn variable_type_at<E: Environment>(
+    alloc: Global,
+    place: &E,
+    kind: VariableKind,
+    value_type: &ValueType,
+) -> DesignMade<VariableType>
+    ensures { IfOk result (λ found. IsVariableType (E.means place.now) kind value_type.now found) }
+{
+    match kind {
+        VariableKind::Integer => Ok(VariableType {
+            signed: true,
+            range: range_of_width(32),
+        }),
+        VariableKind::Time => Ok(VariableType {
+            signed: false,
+            range: range_of_width(64),
+        }),
+        VariableKind::Register => Ok(VariableType {
+            signed: value_type.signed,
+            range: vector_range_at(alloc, place, &value_type.range)?,
+        }),
     }
 }
 
@@ -68,39 +130,28 @@ impl ScopedDesign {
             objects: self.objects.as_slice(),
             scope,
             turn: None,
+            calls: &[],
+        }
+    }
+
+    /// The place of a scope, for constant expressions, the values of whose calls are known (10.4.5).
+    pub fn constant_place(&self, scope: usize) -> ScopePlace<'_>
+        ensures { means result ≡ names_at_scope self.now scope }
+    {
+        ScopePlace {
+            tree: &self.tree,
+            objects: self.objects.as_slice(),
+            scope,
+            turn: None,
+            calls: self.calls.as_slice(),
         }
     }
 
     /// The numbers of a range (4.3.1).
-    #[tactic(auto, using(crate::proofs::Bounds::range_told))]
     pub fn bounds(&self, scope: usize, range: &SourceRange) -> DesignMade<VectorRange>
         ensures { IfOk result (λ found. IsRangeOf (names_at_scope self.now scope) range.now found) }
     {
-        let place = self.place(scope);
-        let most = number_at(self.alloc, &place, &range.most)?;
-        let least = number_at(self.alloc, &place, &range.least)?;
-        match (most, least) {
-            (Some(most), Some(least)) => Ok(VectorRange { most, least }),
-            _ => refuse(range.token, Wrong::Range),
-        }
-    }
-
-    /// The range of a vector, if it has one.
-    pub fn vector_range(
-        &self,
-        scope: usize,
-        range: &Option<SourceRange>,
-    ) -> DesignMade<Option<VectorRange>>
-        ensures { IfOk result (λ found. IsVectorRange (names_at_scope self.now scope) range.now found) }
-    {
-        let Some(source) = range else {
-            return Ok(None);
-        };
-        let found = self.bounds(scope, source)?;
-        if !is_fit(found) {
-            return refuse(source.token, Wrong::Wide);
-        }
-        Ok(Some(found))
+        bounds_at(self.alloc, &self.constant_place(scope), range)
     }
 
     /// The type of variables of a kind: that of `integer` is signed and has 32 digits, that of `time` has 64 (4.8).
@@ -112,20 +163,7 @@ impl ScopedDesign {
     ) -> DesignMade<VariableType>
         ensures { IfOk result (λ found. IsVariableType (names_at_scope self.now scope) kind value_type.now found) }
     {
-        match kind {
-            VariableKind::Integer => Ok(VariableType {
-                signed: true,
-                range: range_of_width(32),
-            }),
-            VariableKind::Time => Ok(VariableType {
-                signed: false,
-                range: range_of_width(64),
-            }),
-            VariableKind::Register => Ok(VariableType {
-                signed: value_type.signed,
-                range: self.vector_range(scope, &value_type.range)?,
-            }),
-        }
+        variable_type_at(self.alloc, &self.constant_place(scope), kind, value_type)
     }
 
     /// Declares a variable of a type. Refuses an array, and one with a value.

@@ -1,5 +1,7 @@
 -- What the steps of the reading give is what the grammar spells.
 use Rattle.std.proofs.Common.{◌≡◌, ℕ, zero, suc, ◌≤◌, ◌<◌, List, [], ◌∷◌, ◌++◌, map, Bool, true, false, if◌then◌else◌, Option, Some, None, Result, Ok, Err, IfOk, refl, sym, ◌∙◌, subst, ap, arith}
+use Rattle.std.specs.declared.boxed.Box.{Box}
+use Rattle.std.specs.declared.alloc.Global.{Global}
 use Rattle.lexemes.specs.declared.token.Sign.{Sign}
 use Rattle.lexemes.specs.declared.token.Sign.TheVariants as sign
 use Rattle.numerals.specs.declared.number.NumberReading.{NumberReading}
@@ -20,7 +22,7 @@ use Rattle.expression_syntax.specs.Places.{kind_at, sign_at, name_at, base_at, h
 use Rattle.expression_syntax.specs.Operators.{binary_operator, unary_operator, part_form, primary_form}
 use Rattle.expression_syntax.specs.Attributes.{tokens_of, IsAttributeRest, closed, inside, AreAttributes, no_attribute, attribute}
 use Rattle.expression_syntax.specs.ExpressionGrammar as grammar
-use Rattle.expression_syntax.specs.ExpressionGrammar.{IsNumber, IsNode, IsPrimary, IsPath, IsUnary, IsBinary, IsExpression, IsLevel, IsBraces, AreSeparated, AreParts, EndsLevel}
+use Rattle.expression_syntax.specs.ExpressionGrammar.{IsNumber, IsNode, IsPrimary, IsPath, IsUnary, IsBinary, IsExpression, IsLevel, IsBraces, AreSeparated, AreParts, EndsLevel, IsTarget}
 use Rattle.expression_syntax.proofs.Levels.{IsReady, ready_joined}
 
 -- ---- attributes
@@ -53,10 +55,10 @@ node_is s a b (reading.Value n) e is node = rw node (grammar.numbered is)
 node_is s a b reading.Wide e is node = rw node (grammar.refused is refl)
 node_is s a b reading.Malformed e is node = rw node (grammar.refused is refl)
 
-pub node_primary : (s : TokenSource) (a b q token : ℕ) (r : NumberReading) (result : Result program.VerilogExpression SyntaxStop) → IsNumber s r a b → token ≡ a → q ≡ b
-    → IfOk result (λ e. IsNode token r (plain_expression_of e)) → IfOk result (λ e. IsPrimary s (plain_expression_of e) a q)
+pub node_primary : (s : TokenSource) (a b q token : ℕ) (r : NumberReading) (result : Result (Box program.VerilogExpression Global) SyntaxStop) → IsNumber s r a b → token ≡ a → q ≡ b
+    → IfOk result (λ e. IsNode token r (plain_expression_of e.value)) → IfOk result (λ e. IsPrimary s (plain_expression_of e.value) a q)
 node_primary s a b q token r (Ok e) is h g node =
-    rw g (node_is s a b r (plain_expression_of e) is (subst (λ x. IsNode x r (plain_expression_of e)) h node))
+    rw g (node_is s a b r (plain_expression_of e.value) is (subst (λ x. IsNode x r (plain_expression_of e.value)) h node))
 node_primary s a b q token r (Err e) is h g node = tt
 
 pub plain_is : (s : TokenSource) (a b token : ℕ) (x : List ℕ) (r : NumberReading) → primary_form (kind_at (tokens_of s) a) ≡ primary.Number → token ≡ a
@@ -110,19 +112,21 @@ map_more : (xs : List program.VerilogExpression) (x : program.VerilogExpression)
 map_more [] x = refl
 map_more (y ∷ xs) x = ap (λ r. plain_expression_of y ∷ r) (map_more xs x)
 
-pub list_start : (s : TokenSource) (first : program.VerilogExpression) (before items : List program.VerilogExpression) → before ≡ [] → items ≡ before ++ first ∷ []
-    → (a b : ℕ) → IsExpression s (plain_expression_of first) a b → AreSeparated s (map plain_expression_of items) a b
-list_start s first before items none i a b is =
+pub list_start : (s : TokenSource) (given first : program.VerilogExpression) (before items : List program.VerilogExpression) → first ≡ given → before ≡ [] → items ≡ before ++ first ∷ []
+    → (a b : ℕ) → IsExpression s (plain_expression_of given) a b → AreSeparated s (map plain_expression_of items) a b
+list_start s given first before items same none i a b given_is =
+    let is : IsExpression s (plain_expression_of first) a b = subst (λ x. IsExpression s (plain_expression_of x) a b) (sym same) given_is in
     let e : map plain_expression_of items ≡ plain_expression_of first ∷ [] = ap (λ xs. map plain_expression_of xs) i ∙ ap (λ xs. map plain_expression_of (xs ++ first ∷ [])) none in
     subst (λ es. AreSeparated s es a b) (sym e) (grammar.first_part is)
 
-pub list_more : (s : TokenSource) (part : program.VerilogExpression) (old new : List program.VerilogExpression) (a m p b : ℕ) (r : Bool) → AreSeparated s (map plain_expression_of old) a m
-    → r ≡ sign_at (tokens_of s) m sign.Comma → r ≡ true → p ≡ (if r then behind (tokens_of s) m else m) → IsExpression s (plain_expression_of part) p b
-    → new ≡ old ++ part ∷ [] → AreSeparated s (map plain_expression_of new) a b
-list_more s part old new a m p b true is seen r moved inner i =
+pub list_more : (s : TokenSource) (given part : program.VerilogExpression) (old new : List program.VerilogExpression) (a m p b : ℕ) (r : Bool) → part ≡ given
+    → AreSeparated s (map plain_expression_of old) a m → r ≡ sign_at (tokens_of s) m sign.Comma → r ≡ true → p ≡ (if r then behind (tokens_of s) m else m)
+    → IsExpression s (plain_expression_of given) p b → new ≡ old ++ part ∷ [] → AreSeparated s (map plain_expression_of new) a b
+list_more s given part old new a m p b true same is seen r moved given_is i =
+    let inner : IsExpression s (plain_expression_of part) p b = subst (λ x. IsExpression s (plain_expression_of x) p b) (sym same) given_is in
     let e : map plain_expression_of new ≡ map plain_expression_of old ++ plain_expression_of part ∷ [] = ap (λ xs. map plain_expression_of xs) i ∙ map_more old part in
     subst (λ es. AreSeparated s es a b) (sym e) (grammar.next_part is (sym seen) (subst (λ x. IsExpression s (plain_expression_of part) x b) moved inner))
-list_more s part old new a m p b false is seen r moved inner i = absurd (cc)
+list_more s given part old new a m p b false same is seen r moved given_is i = absurd (cc)
 
 pub parts_is : (s : TokenSource) (bracket : Sign) (es : List Expression) (a m p q q2 : ℕ) (r : Bool) → AreSeparated s es a m → r ≡ false
     → p ≡ (if r then behind (tokens_of s) m else m) → sign_at (tokens_of s) p bracket ≡ true → q ≡ behind (tokens_of s) p → q2 ≡ q → AreParts s bracket es a q2
@@ -208,6 +212,14 @@ pub level_is : (s : TokenSource) (level m : ℕ) (e : Expression) (a b : ℕ) �
 level_is s zero m e a b low high is = grammar.plain (subst (λ x. IsBinary s x e a b) (low refl) is)
 level_is s (suc n) m e a b low high is = subst (λ x. IsBinary s x e a b) (high (omega arith)) is
 
-pub ok_map : (P Q : program.VerilogExpression → Type 0) (result : Result program.VerilogExpression SyntaxStop) → ((e : program.VerilogExpression) → P e → Q e) → IfOk result P → IfOk result Q
+pub ok_map : {A : Type 0} (P Q : A → Type 0) (result : Result A SyntaxStop) → ((e : A) → P e → Q e) → IfOk result P → IfOk result Q
 ok_map P Q (Ok e) f h = f e h
 ok_map P Q (Err e) f h = tt
+
+-- ---- targets
+
+pub path_target : (s : TokenSource) (a b : ℕ) (given e : program.VerilogExpression) → e ≡ given → IsPath s (plain_expression_of given) a b → IsTarget s (plain_expression_of e) a b
+path_target s a b given e same is = subst (λ x. IsTarget s (plain_expression_of x) a b) (sym same) (grammar.one_target is)
+
+pub braces_target : (s : TokenSource) (a b : ℕ) (given e : program.VerilogExpression) → e ≡ given → IsBraces s (plain_expression_of given) a b → IsTarget s (plain_expression_of e) a b
+braces_target s a b given e same is = subst (λ x. IsTarget s (plain_expression_of x) a b) (sym same) (grammar.several_targets is)

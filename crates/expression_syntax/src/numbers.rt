@@ -23,19 +23,19 @@ fn number_node(
     reader: &mut Reader,
     token: usize,
     reading: NumberReading,
-) -> SyntaxRead<VerilogExpression>
+) -> SyntaxRead<Box<VerilogExpression>>
     ensures same { reader.new.place ≡ reader.old.place }
-    ensures node { IfOk result (λ e. IsNode token reading (plain_expression_of e)) }
+    ensures node { IfOk result (λ e. IsNode token reading (plain_expression_of e.value)) }
 {
     match reading {
         NumberReading::Value(number) => Ok(number_of(source.alloc, token, &number)?),
         NumberReading::Wide => {
             reader.refuse(token, Refused::WideNumber)?;
-            Ok(refused_of(token))
+            Ok(refused_of(source.alloc, token)?)
         }
         NumberReading::Malformed => {
             reader.refuse(token, Refused::MalformedNumber)?;
-            Ok(refused_of(token))
+            Ok(refused_of(source.alloc, token)?)
         }
     }
 }
@@ -45,11 +45,11 @@ fn parse_sized(
     source: &TokenSource<'_>,
     reader: &mut Reader,
     size: usize,
-) -> SyntaxRead<VerilogExpression>
+) -> SyntaxRead<Box<VerilogExpression>>
     requires number { primary_form (kind_at (tokens_of source.now) size) ≡ primary.Number }
     requires follows { reader.old.place ≡ behind (tokens_of source.now) size }
     requires base { base_at (tokens_of source.now) reader.old.place ≡ true }
-    ensures { IfOk result (λ e. IsPrimary source.now (plain_expression_of e) size reader.new.place) }
+    ensures { IfOk result (λ e. IsPrimary source.now (plain_expression_of e.value) size reader.new.place) }
 {
     let base = reader.take(source);
     let digits = reader.expect_digits(source)?;
@@ -63,9 +63,12 @@ fn parse_sized(
 }
 
 /// Reads a number that begins with digits: a size, or all of it.
-pub fn parse_number(source: &TokenSource<'_>, reader: &mut Reader) -> SyntaxRead<VerilogExpression>
+pub fn parse_number(
+    source: &TokenSource<'_>,
+    reader: &mut Reader,
+) -> SyntaxRead<Box<VerilogExpression>>
     requires { primary_form (kind_at (tokens_of source.now) reader.old.place) ≡ primary.Number }
-    ensures { IfOk result (λ e. IsPrimary source.now (plain_expression_of e) reader.old.place reader.new.place) }
+    ensures { IfOk result (λ e. IsPrimary source.now (plain_expression_of e.value) reader.old.place reader.new.place) }
 {
     let first = reader.take(source);
     if reader.sees_base(source) {
@@ -76,8 +79,11 @@ pub fn parse_number(source: &TokenSource<'_>, reader: &mut Reader) -> SyntaxRead
 }
 
 /// Reads a number that begins with its base.
-pub fn parse_based(source: &TokenSource<'_>, reader: &mut Reader) -> SyntaxRead<VerilogExpression>
-    ensures { IfOk result (λ e. IsPrimary source.now (plain_expression_of e) reader.old.place reader.new.place) }
+pub fn parse_based(
+    source: &TokenSource<'_>,
+    reader: &mut Reader,
+) -> SyntaxRead<Box<VerilogExpression>>
+    ensures { IfOk result (λ e. IsPrimary source.now (plain_expression_of e.value) reader.old.place reader.new.place) }
 {
     let base = reader.expect_base(source)?;
     let digits = reader.expect_digits(source)?;
@@ -90,22 +96,27 @@ pub fn parse_based(source: &TokenSource<'_>, reader: &mut Reader) -> SyntaxRead<
 }
 
 /// Reads a real number.
-pub fn parse_real(source: &TokenSource<'_>, reader: &mut Reader) -> SyntaxRead<VerilogExpression>
+pub fn parse_real(
+    source: &TokenSource<'_>,
+    reader: &mut Reader,
+) -> SyntaxRead<Box<VerilogExpression>>
     requires { primary_form (kind_at (tokens_of source.now) reader.old.place) ≡ primary.Real }
-    ensures { IfOk result (λ e. IsPrimary source.now (plain_expression_of e) reader.old.place reader.new.place) }
+    ensures { IfOk result (λ e. IsPrimary source.now (plain_expression_of e.value) reader.old.place reader.new.place) }
 {
     let token = reader.take(source);
-    Ok(real_of(token, token_copy(source, token)?))
+    let text = token_copy(source, token)?;
+    Ok(real_of(source.alloc, token, text)?)
 }
 
 /// Reads a string.
-pub fn parse_text(source: &TokenSource<'_>, reader: &mut Reader) -> SyntaxRead<VerilogExpression>
+pub fn parse_text(
+    source: &TokenSource<'_>,
+    reader: &mut Reader,
+) -> SyntaxRead<Box<VerilogExpression>>
     requires { primary_form (kind_at (tokens_of source.now) reader.old.place) ≡ primary.Text }
-    ensures { IfOk result (λ e. IsPrimary source.now (plain_expression_of e) reader.old.place reader.new.place) }
+    ensures { IfOk result (λ e. IsPrimary source.now (plain_expression_of e.value) reader.old.place reader.new.place) }
 {
     let token = reader.take(source);
-    Ok(text_of(
-        token,
-        string_text(source.alloc, token_bytes(source, token))?,
-    ))
+    let bytes = string_text(source.alloc, token_bytes(source, token))?;
+    Ok(text_of(source.alloc, token, bytes)?)
 }

@@ -29,21 +29,22 @@ const TURNS: u32 = MOST_OPERATORS + 2;
 pub const ROOM: usize = 4096;
 
 /// Reads a name.
-fn parse_name(source: &TokenSource<'_>, reader: &mut Reader) -> SyntaxRead<VerilogExpression>
-    ensures { IfOk result (λ e. grammar.IsPath source.now (plain_expression_of e) reader.old.place reader.new.place) }
+fn parse_name(source: &TokenSource<'_>, reader: &mut Reader) -> SyntaxRead<Box<VerilogExpression>>
+    ensures { IfOk result (λ e. grammar.IsPath source.now (plain_expression_of e.value) reader.old.place reader.new.place) }
 {
     let token = reader.expect_name(source)?;
-    Ok(name_of(token, name_copy(source, token)?))
+    let name = name_copy(source, token)?;
+    Ok(name_of(source.alloc, token, name)?)
 }
 
 /// Reads `.` and a name, behind what is the scope of it.
 fn parse_member(
     source: &TokenSource<'_>,
     reader: &mut Reader,
-    scope: VerilogExpression,
-) -> SyntaxRead<VerilogExpression>
-    ensures { IfOk result (λ e. (a : ℕ) → grammar.IsPath source.now (plain_expression_of scope) a reader.old.place
-        → grammar.IsPath source.now (plain_expression_of e) a reader.new.place) }
+    scope: Box<VerilogExpression>,
+) -> SyntaxRead<Box<VerilogExpression>>
+    ensures { IfOk result (λ e. (a : ℕ) → grammar.IsPath source.now (plain_expression_of scope.value) a reader.old.place
+        → grammar.IsPath source.now (plain_expression_of e.value) a reader.new.place) }
 {
     reader.expect(source, Sign::Dot)?;
     let token = reader.expect_name(source)?;
@@ -58,13 +59,13 @@ fn parse_part(
     reader: &mut Reader,
     room: usize,
     form: PartForm,
-    parts: (usize, VerilogExpression, VerilogExpression),
-) -> SyntaxRead<VerilogExpression>
-    ensures { IfOk result (λ e. (a : ℕ) → grammar.IsPath source.now (plain_expression_of parts.1) a parts.0
+    parts: (usize, Box<VerilogExpression>, Box<VerilogExpression>),
+) -> SyntaxRead<Box<VerilogExpression>>
+    ensures { IfOk result (λ e. (a : ℕ) → grammar.IsPath source.now (plain_expression_of parts.1.value) a parts.0
         → sign_at (tokens_of source.now) parts.0 sign.OpenSquare ≡ true
-        → grammar.IsExpression source.now (plain_expression_of parts.2) (behind (tokens_of source.now) parts.0) reader.old.place
+        → grammar.IsExpression source.now (plain_expression_of parts.2.value) (behind (tokens_of source.now) parts.0) reader.old.place
         → part_form (kind_at (tokens_of source.now) reader.old.place) ≡ Some form
-        → grammar.IsPath source.now (plain_expression_of e) a reader.new.place) }
+        → grammar.IsPath source.now (plain_expression_of e.value) a reader.new.place) }
 {
     let _ = reader.take(source);
     let second = parse_expression(source, reader, room, 0)?;
@@ -80,10 +81,10 @@ fn parse_select(
     source: &TokenSource<'_>,
     reader: &mut Reader,
     room: usize,
-    base: VerilogExpression,
-) -> SyntaxRead<VerilogExpression>
-    ensures { IfOk result (λ e. (a : ℕ) → grammar.IsPath source.now (plain_expression_of base) a reader.old.place
-        → grammar.IsPath source.now (plain_expression_of e) a reader.new.place) }
+    base: Box<VerilogExpression>,
+) -> SyntaxRead<Box<VerilogExpression>>
+    ensures { IfOk result (λ e. (a : ℕ) → grammar.IsPath source.now (plain_expression_of base.value) a reader.old.place
+        → grammar.IsPath source.now (plain_expression_of e.value) a reader.new.place) }
 {
     let token = reader.expect(source, Sign::OpenSquare)?;
     reader.open()?;
@@ -114,10 +115,10 @@ fn parse_step(
     source: &TokenSource<'_>,
     reader: &mut Reader,
     room: usize,
-    base: VerilogExpression,
-) -> SyntaxRead<VerilogExpression>
-    ensures { IfOk result (λ e. (a : ℕ) → grammar.IsPath source.now (plain_expression_of base) a reader.old.place
-        → grammar.IsPath source.now (plain_expression_of e) a reader.new.place) }
+    base: Box<VerilogExpression>,
+) -> SyntaxRead<Box<VerilogExpression>>
+    ensures { IfOk result (λ e. (a : ℕ) → grammar.IsPath source.now (plain_expression_of base.value) a reader.old.place
+        → grammar.IsPath source.now (plain_expression_of e.value) a reader.new.place) }
 {
     if reader.sees(source, Sign::Dot) {
         return parse_member(source, reader, base);
@@ -136,8 +137,8 @@ pub fn parse_path(
     source: &TokenSource<'_>,
     reader: &mut Reader,
     room: usize,
-) -> SyntaxRead<VerilogExpression>
-    ensures { IfOk result (λ e. grammar.IsPath source.now (plain_expression_of e) reader.old.place reader.new.place) }
+) -> SyntaxRead<Box<VerilogExpression>>
+    ensures { IfOk result (λ e. grammar.IsPath source.now (plain_expression_of e.value) reader.old.place reader.new.place) }
 {
     let mut found = parse_name(source, reader)?;
     for step in 0..TURNS {
@@ -157,13 +158,13 @@ fn parse_list(
     reader: &mut Reader,
     room: usize,
     bracket: Sign,
-    first: VerilogExpression,
+    first: Box<VerilogExpression>,
 ) -> SyntaxRead<Vec<VerilogExpression>>
-    ensures { IfOk result (λ found. (a : ℕ) → grammar.IsExpression source.now (plain_expression_of first) a reader.old.place
+    ensures { IfOk result (λ found. (a : ℕ) → grammar.IsExpression source.now (plain_expression_of first.value) a reader.old.place
         → grammar.AreParts source.now bracket (plain_expressions_of found) a reader.new.place) }
 {
     let mut found = Vec::new(source.alloc);
-    found.push(first)?;
+    found.push(Box::into_inner(first))?;
     for _part in 0..source.tokens.len() {
         if !reader.accept(source, Sign::Comma) {
             reader.expect(source, bracket)?;
@@ -171,7 +172,7 @@ fn parse_list(
             return Ok(found);
         }
         let part = parse_expression(source, reader, room, 0)?;
-        found.push(part)?;
+        found.push(Box::into_inner(part))?;
     }
     Err(SyntaxStop::Expected(ExpectedToken::Sign(bracket)))
 }
@@ -198,8 +199,8 @@ fn parse_named(
     source: &TokenSource<'_>,
     reader: &mut Reader,
     room: usize,
-) -> SyntaxRead<VerilogExpression>
-    ensures { IfOk result (λ e. grammar.IsPrimary source.now (plain_expression_of e) reader.old.place reader.new.place) }
+) -> SyntaxRead<Box<VerilogExpression>>
+    ensures { IfOk result (λ e. grammar.IsPrimary source.now (plain_expression_of e.value) reader.old.place reader.new.place) }
 {
     let path = parse_path(source, reader, room)?;
     reader.skip_attributes(source)?;
@@ -217,17 +218,17 @@ fn parse_system_call(
     source: &TokenSource<'_>,
     reader: &mut Reader,
     room: usize,
-) -> SyntaxRead<VerilogExpression>
+) -> SyntaxRead<Box<VerilogExpression>>
     requires { primary_form (kind_at (tokens_of source.now) reader.old.place) ≡ primary.SystemName }
-    ensures { IfOk result (λ e. grammar.IsPrimary source.now (plain_expression_of e) reader.old.place reader.new.place) }
+    ensures { IfOk result (λ e. grammar.IsPrimary source.now (plain_expression_of e.value) reader.old.place reader.new.place) }
 {
     let token = reader.take(source);
     let name = token_copy(source, token)?;
     if !reader.sees(source, Sign::Open) {
-        return Ok(system_call_of(token, name, Vec::new(source.alloc)));
+        return Ok(system_call_of(source.alloc, token, name, Vec::new(source.alloc))?);
     }
     let arguments = parse_arguments(source, reader, room)?;
-    Ok(system_call_of(token, name, arguments))
+    Ok(system_call_of(source.alloc, token, name, arguments)?)
 }
 
 /// Reads the rest of a replication, from its second `{` on.
@@ -237,11 +238,11 @@ fn parse_replication(
     reader: &mut Reader,
     room: usize,
     token: usize,
-    count: VerilogExpression,
-) -> SyntaxRead<VerilogExpression>
+    count: Box<VerilogExpression>,
+) -> SyntaxRead<Box<VerilogExpression>>
     ensures { IfOk result (λ e. sign_at (tokens_of source.now) token sign.OpenCurly ≡ true
-        → grammar.IsExpression source.now (plain_expression_of count) (behind (tokens_of source.now) token) reader.old.place
-        → grammar.IsBraces source.now (plain_expression_of e) token reader.new.place) }
+        → grammar.IsExpression source.now (plain_expression_of count.value) (behind (tokens_of source.now) token) reader.old.place
+        → grammar.IsBraces source.now (plain_expression_of e.value) token reader.new.place) }
 {
     reader.expect(source, Sign::OpenCurly)?;
     reader.open()?;
@@ -258,8 +259,8 @@ pub fn parse_braces(
     source: &TokenSource<'_>,
     reader: &mut Reader,
     room: usize,
-) -> SyntaxRead<VerilogExpression>
-    ensures { IfOk result (λ e. grammar.IsBraces source.now (plain_expression_of e) reader.old.place reader.new.place) }
+) -> SyntaxRead<Box<VerilogExpression>>
+    ensures { IfOk result (λ e. grammar.IsBraces source.now (plain_expression_of e.value) reader.old.place reader.new.place) }
 {
     let token = reader.expect(source, Sign::OpenCurly)?;
     reader.open()?;
@@ -268,7 +269,7 @@ pub fn parse_braces(
         return parse_replication(source, reader, room, token, first);
     }
     let parts = parse_list(source, reader, room, Sign::CloseCurly, first)?;
-    Ok(concatenation_of(token, parts))
+    Ok(concatenation_of(source.alloc, token, parts)?)
 }
 
 /// Reads the rest of min:typ:max, from the first `:` on, and keeps the middle one.
@@ -277,10 +278,10 @@ fn parse_typical(
     source: &TokenSource<'_>,
     reader: &mut Reader,
     room: usize,
-) -> SyntaxRead<VerilogExpression>
+) -> SyntaxRead<Box<VerilogExpression>>
     ensures { IfOk result (λ e. (a : ℕ) (low : tree.Expression) → sign_at (tokens_of source.now) a sign.Open ≡ true
         → grammar.IsExpression source.now low (behind (tokens_of source.now) a) reader.old.place
-        → grammar.IsPrimary source.now (plain_expression_of e) a reader.new.place) }
+        → grammar.IsPrimary source.now (plain_expression_of e.value) a reader.new.place) }
 {
     reader.expect(source, Sign::Colon)?;
     let typical = parse_expression(source, reader, room, 0)?;
@@ -297,8 +298,8 @@ pub fn parse_parenthesized(
     source: &TokenSource<'_>,
     reader: &mut Reader,
     room: usize,
-) -> SyntaxRead<VerilogExpression>
-    ensures { IfOk result (λ e. grammar.IsPrimary source.now (plain_expression_of e) reader.old.place reader.new.place) }
+) -> SyntaxRead<Box<VerilogExpression>>
+    ensures { IfOk result (λ e. grammar.IsPrimary source.now (plain_expression_of e.value) reader.old.place reader.new.place) }
 {
     reader.expect(source, Sign::Open)?;
     reader.open()?;
@@ -317,8 +318,8 @@ fn parse_primary(
     source: &TokenSource<'_>,
     reader: &mut Reader,
     room: usize,
-) -> SyntaxRead<VerilogExpression>
-    ensures { IfOk result (λ e. grammar.IsPrimary source.now (plain_expression_of e) reader.old.place reader.new.place) }
+) -> SyntaxRead<Box<VerilogExpression>>
+    ensures { IfOk result (λ e. grammar.IsPrimary source.now (plain_expression_of e.value) reader.old.place reader.new.place) }
 {
     match primary_form(reader.kind(source)) {
         PrimaryForm::Number => parse_number(source, reader),
@@ -339,8 +340,8 @@ fn parse_operand(
     source: &TokenSource<'_>,
     reader: &mut Reader,
     room: usize,
-) -> SyntaxRead<VerilogExpression>
-    ensures { IfOk result (λ e. grammar.IsUnary source.now (plain_expression_of e) reader.old.place reader.new.place) }
+) -> SyntaxRead<Box<VerilogExpression>>
+    ensures { IfOk result (λ e. grammar.IsUnary source.now (plain_expression_of e.value) reader.old.place reader.new.place) }
 {
     match unary_operator(reader.kind(source)) {
         None => parse_primary(source, reader, room),
@@ -361,10 +362,10 @@ fn parse_operators(
     reader: &mut Reader,
     room: usize,
     level: u8,
-    first: VerilogExpression,
-) -> SyntaxRead<VerilogExpression>
-    ensures spelled { IfOk result (λ e. (a : ℕ) → grammar.IsUnary source.now (plain_expression_of first) a reader.old.place
-        → level ≤ 12 → grammar.IsBinary source.now level (plain_expression_of e) a reader.new.place) }
+    first: Box<VerilogExpression>,
+) -> SyntaxRead<Box<VerilogExpression>>
+    ensures spelled { IfOk result (λ e. (a : ℕ) → grammar.IsUnary source.now (plain_expression_of first.value) a reader.old.place
+        → level ≤ 12 → grammar.IsBinary source.now level (plain_expression_of e.value) a reader.new.place) }
     ensures stops { IfOk result (λ _. grammar.EndsLevel level (kind_at (tokens_of source.now) reader.new.place)) }
 {
     let mut left = first;
@@ -391,10 +392,10 @@ fn parse_conditional(
     source: &TokenSource<'_>,
     reader: &mut Reader,
     room: usize,
-    condition: VerilogExpression,
-) -> SyntaxRead<VerilogExpression>
-    ensures { IfOk result (λ e. (a : ℕ) → grammar.IsBinary source.now 1 (plain_expression_of condition) a reader.old.place
-        → grammar.IsExpression source.now (plain_expression_of e) a reader.new.place) }
+    condition: Box<VerilogExpression>,
+) -> SyntaxRead<Box<VerilogExpression>>
+    ensures { IfOk result (λ e. (a : ℕ) → grammar.IsBinary source.now 1 (plain_expression_of condition.value) a reader.old.place
+        → grammar.IsExpression source.now (plain_expression_of e.value) a reader.new.place) }
 {
     reader.count_operator()?;
     let token = reader.expect(source, Sign::Question)?;
@@ -421,8 +422,8 @@ pub fn parse_expression(
     reader: &mut Reader,
     room: usize,
     level: u8,
-) -> SyntaxRead<VerilogExpression>
-    ensures spelled { IfOk result (λ e. level ≤ 12 → grammar.IsLevel source.now level (plain_expression_of e) reader.old.place reader.new.place) }
+) -> SyntaxRead<Box<VerilogExpression>>
+    ensures spelled { IfOk result (λ e. level ≤ 12 → grammar.IsLevel source.now level (plain_expression_of e.value) reader.old.place reader.new.place) }
     ensures stops { IfOk result (λ _. 1 ≤ level → grammar.EndsLevel level (kind_at (tokens_of source.now) reader.new.place)) }
 {
     if room == 0 {
@@ -443,14 +444,14 @@ pub fn read_expression(
 ) -> SyntaxRead<VerilogExpression>
     ensures { IfOk result (λ e. grammar.IsExpression source.now (plain_expression_of e) reader.old.place reader.new.place) }
 {
-    parse_expression(source, reader, ROOM, 0)
+    Ok(Box::into_inner(parse_expression(source, reader, ROOM, 0)?))
 }
 
 /// Reads a path: a name, with members and selects.
 pub fn read_path(source: &TokenSource<'_>, reader: &mut Reader) -> SyntaxRead<VerilogExpression>
     ensures { IfOk result (λ e. grammar.IsPath source.now (plain_expression_of e) reader.old.place reader.new.place) }
 {
-    parse_path(source, reader, ROOM)
+    Ok(Box::into_inner(parse_path(source, reader, ROOM)?))
 }
 
 /// Reads an expression, or min:typ:max, in parentheses.
@@ -460,14 +461,14 @@ pub fn read_parenthesized(
 ) -> SyntaxRead<VerilogExpression>
     ensures { IfOk result (λ e. grammar.IsPrimary source.now (plain_expression_of e) reader.old.place reader.new.place) }
 {
-    parse_parenthesized(source, reader, ROOM)
+    Ok(Box::into_inner(parse_parenthesized(source, reader, ROOM)?))
 }
 
 /// Reads an operand without an operator.
 pub fn read_primary(source: &TokenSource<'_>, reader: &mut Reader) -> SyntaxRead<VerilogExpression>
     ensures { IfOk result (λ e. grammar.IsPrimary source.now (plain_expression_of e) reader.old.place reader.new.place) }
 {
-    parse_primary(source, reader, ROOM)
+    Ok(Box::into_inner(parse_primary(source, reader, ROOM)?))
 }
 
 /// Reads `( arguments )`.
@@ -486,10 +487,10 @@ pub fn read_target(source: &TokenSource<'_>, reader: &mut Reader) -> SyntaxRead<
     ensures { IfOk result (λ e. grammar.IsTarget source.now (plain_expression_of e) reader.old.place reader.new.place) }
 {
     if reader.sees(source, Sign::OpenCurly) {
-        return parse_braces(source, reader, ROOM);
+        return Ok(Box::into_inner(parse_braces(source, reader, ROOM)?));
     }
     if !reader.sees_name(source) {
         return Err(SyntaxStop::Expected(ExpectedToken::Target));
     }
-    parse_path(source, reader, ROOM)
+    Ok(Box::into_inner(parse_path(source, reader, ROOM)?))
 }

@@ -3,6 +3,7 @@ use Rattle.std.specs.Prelude.{◌≡◌, ℕ, Bool, true, false, List, Option, N
 use Rattle.std.specs.Str.{bytes_eq}
 use Rattle.std.specs.Map.{lookup}
 use Rattle.std.specs.declared.alloc.Global.{Global}
+use Rattle.std.specs.declared.vec.Vec.{Vec}
 use Rattle.scopes.specs.Scopes.{NameText}
 use Rattle.scopes.specs.declared.scope.Entity.TheVariants as entity
 use Rattle.shaped_trees.specs.declared.constants.Constant.{Constant}
@@ -12,6 +13,8 @@ use Rattle.syntax_tree.specs.declared.declarations.ParameterAssignment.{Paramete
 use Rattle.syntax_tree.specs.declared.declarations.ParameterDeclaration.{ParameterDeclaration}
 use Rattle.design_scopes.specs.Designs.{names_at_scope, full_name_at, DeclaresObject}
 use Rattle.design_scopes.specs.Values.{IsParameter}
+use Rattle.design_scopes.specs.declared.call_values.CallValue.{CallValue}
+use Rattle.design_scopes.specs.declared.scoped.ScopedDesign.{ScopedDesign}
 use Rattle.hierarchy.specs.declared.elaboration.Elaboration.{Elaboration}
 use Rattle.hierarchy.specs.declared.parameters.Given.{Given}
 use Rattle.hierarchy.specs.declared.parameters.Parameters.{Parameters}
@@ -34,10 +37,16 @@ abbrev pub IsGivenParameter : Bool → Option Constant → Option Constant → T
 IsGivenParameter true elsewhere given = given ≡ None
 IsGivenParameter false elsewhere given = given ≡ elsewhere
 
--- A scope declares a parameter, with the value that it is given from elsewhere, or else with that of its declaration.
+-- a design that knows the values of these calls of constant functions
+abbrev pub with_calls : ScopedDesign → Vec CallValue Global → ScopedDesign
+with_calls d calls = record d { calls = calls }
+
+-- A scope declares a parameter, with the value that it is given from elsewhere, or else with that of its declaration, by the values of the
+-- calls of constant functions in it.
 pub record DeclaresParameter (old new : Elaboration) (scope : ℕ) (source : ParameterDeclaration) (assignment : ParameterAssignment) : Type 0 where
   pub given : Option Constant
   pub object : Object
+  pub calls : Vec CallValue Global
   pub elsewhere : IsGivenParameter source.local (value_given old.parameters (full_name_at old.design scope assignment.identifier.name.items)) given
-  pub parameter : IsParameter (names_at_scope old.design scope) source given (plain_expression_of assignment.value) object
+  pub parameter : IsParameter (names_at_scope (with_calls old.design calls) scope) source given (plain_expression_of assignment.value) object
   pub declares : DeclaresObject old.design new.design scope assignment.identifier.name.items entity.Object object

@@ -12,7 +12,7 @@ impl Elaboration<'_> {
     pub fn declare_block_items(&mut self, scope: usize, items: &[BlockItem]) -> DesignMade<()> {
         for item in items {
             match item {
-                BlockItem::Variable(source) => self.design.declare_variables(scope, source)?,
+                BlockItem::Variable(source) => self.declare_variables(scope, source)?,
                 BlockItem::Event(source) => self.design.declare_events(scope, source)?,
                 BlockItem::Parameter(source) => self.declare_parameters(scope, source)?,
             }

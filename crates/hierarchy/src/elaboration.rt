@@ -6,6 +6,7 @@ ghost use Rattle.design_scopes.specs.Flat.{variable_names};
 use crate::instances::has_parameter;
 use crate::modules::{ModuleTable, top_modules};
 use crate::parameters::{Given, Parameters};
+use constant_functions::calls::ConstantFunctions;
 use design_scopes::faults::{DesignFault, DesignMade, Wrong, refuse};
 use design_scopes::generates::is_direct;
 use design_scopes::scoped::{Label, ScopedDesign, label_of};
@@ -33,6 +34,7 @@ pub struct Elaboration<'t> {
     pub modules: ModuleTable<'t>,
     pub design: ScopedDesign,
     pub parameters: Parameters,
+    pub functions: ConstantFunctions<'t>,
 }
 
 impl<'t> Elaboration<'t> {
@@ -42,6 +44,7 @@ impl<'t> Elaboration<'t> {
             modules: ModuleTable::new(alloc, modules)?,
             design: ScopedDesign::new(alloc)?,
             parameters: Parameters::new(alloc),
+            functions: ConstantFunctions::new(alloc, modules)?,
         })
     }
 
@@ -102,10 +105,21 @@ impl<'t> Elaboration<'t> {
     fn finished(self, made: DesignMade<()>) -> DesignMade<ScopedDesign>
         ensures { IfOk result (λ design. (made ≡ Ok tt) × (design ≡ self.entry.design)) }
     {
-        let Elaboration { design, .. } = self;
+        let Elaboration {
+            modules,
+            design,
+            functions,
+            parameters,
+        } = self;
+        drop(modules);
+        drop(functions);
+        drop(parameters);
         match made {
             Ok(()) => Ok(design),
-            Err(fault) => Err(fault),
+            Err(fault) => {
+                drop(design);
+                Err(fault)
+            }
         }
     }
 
@@ -113,7 +127,7 @@ impl<'t> Elaboration<'t> {
     fn declare_item(&mut self, scope: usize, item: &ModuleItem) -> DesignMade<()> {
         match item {
             ModuleItem::Parameter(source) => self.declare_parameters(scope, source),
-            ModuleItem::Variable(source) => self.design.declare_variables(scope, source),
+            ModuleItem::Variable(source) => self.declare_variables(scope, source),
             ModuleItem::Event(source) => self.design.declare_events(scope, source),
             ModuleItem::Genvar(source) => self.design.declare_genvars(scope, source),
             ModuleItem::Function(source) => self.open_function(scope, source),
@@ -195,7 +209,7 @@ impl<'t> Elaboration<'t> {
         instance_of: Option<&[u8]>,
         range: &VerilogRange,
     ) -> DesignMade<(usize, usize)> {
-        let indices = self.design.indices(scope, range)?;
+        let indices = self.indices(scope, range)?;
         let first = self
             .design
             .open_several(scope, label, instance_of, indices.as_slice())?;
@@ -259,9 +273,12 @@ impl<'t> Elaboration<'t> {
         if room == 0 {
             return refuse(source.token, Wrong::Deep);
         }
-        let (first, count) = self.design.open_turns(scope, source, number)?;
-        let mut inner = first;
-        for _turn in 0..count {
+        let variable = self.design.loop_variable(scope, source)?;
+        let values = self.loop_values(scope, source, variable.name)?;
+        let mut inner = self
+            .design
+            .open_turns(scope, source, number, variable, values.as_slice())?;
+        for _turn in 0..values.len() {
             self.elaborate_items(inner, source.body.items.as_slice(), room - 1)?;
             inner = inner.saturating_add(1);
         }
@@ -319,11 +336,10 @@ impl<'t> Elaboration<'t> {
         number: usize,
         room: usize,
     ) -> DesignMade<()> {
-        if let Some(place) = self.design.chosen_branch(scope, source)? {
-            return match source.branches.get(place) {
-                Some(branch) => self.elaborate_chosen(scope, &branch.body, number, room),
-                None => Ok(()),
-            };
+        for branch in &source.branches {
+            if self.condition_holds(scope, source.token, &branch.condition)? {
+                return self.elaborate_chosen(scope, &branch.body, number, room);
+            }
         }
         match &source.otherwise {
             Some(block) => self.elaborate_chosen(scope, block, number, room),
@@ -340,7 +356,7 @@ impl<'t> Elaboration<'t> {
         number: usize,
         room: usize,
     ) -> DesignMade<()> {
-        let Some(place) = self.design.chosen_item(scope, source)? else {
+        let Some(place) = self.chosen_item(scope, source)? else {
             return Ok(());
         };
         match source.items.get(place) {

@@ -3,7 +3,6 @@
 use crate::elaboration::Elaboration;
 use crate::parameters::Given;
 use design_scopes::faults::{DesignMade, Wrong, refuse};
-use design_scopes::places::value_at;
 use design_scopes::scoped::{Label, label_of};
 use syntax_tree::declarations::ParameterDeclaration;
 use syntax_tree::modules::{Connection, ModuleDeclaration, ModuleItem};
@@ -99,9 +98,9 @@ impl Elaboration<'_> {
         let Some(source) = &connection.value else {
             return Ok(());
         };
-        let value = value_at(self.design.alloc, &self.design.place(around), source)?;
-        let full = self.design.full_name_in(inner, label)?;
         let token = connection.token;
+        let value = self.value_in(around, token, source)?;
+        let full = self.design.full_name_in(inner, label)?;
         self.parameters.give(full, Given { token, value })?;
         Ok(())
     }
@@ -131,11 +130,8 @@ impl Elaboration<'_> {
     ) -> DesignMade<()> {
         for assignment in assignments {
             let token = assignment.token;
-            let value = value_at(
-                self.design.alloc,
-                &self.design.place(scope),
-                &assignment.value,
-            )?;
+            let value = self.value_in(scope, token, &assignment.value)?;
+            self.prepare(scope, token, &[&assignment.target])?;
             let full = self.design.path_from(scope, token, &assignment.target)?;
             self.parameters.give_over(full, Given { token, value })?;
         }

@@ -33,45 +33,51 @@ impl<'t> ModuleTable<'t> {
     }
 }
 
+/// The names of modules of which some module makes instances, as far as there was memory for them.
+#[derive(Drop)]
+struct UsedNames<'t> {
+    names: IndexSet<&'t [u8]>,
+    /// Whether memory was refused. Then nothing of this is told.
+    lacks_memory: bool,
+}
+
+/// Adds the name of a module.
+fn add_use<'t>(used: &mut UsedNames<'t>, name: &'t [u8]) {
+    if used.names.insert(name).is_err() {
+        used.lacks_memory = true;
+    }
+}
+
 /// Adds the name of each module of which an item makes instances.
 #[cycle(uses)]
-fn add_uses<'t>(item: &'t ModuleItem, used: &mut IndexSet<&'t [u8]>) -> Result<(), AllocError> {
+fn add_uses<'t>(item: &'t ModuleItem, used: &mut UsedNames<'t>) {
     match item {
-        ModuleItem::Instance(found) => {
-            used.insert(found.module.name.as_slice())?;
-            Ok(())
-        }
+        ModuleItem::Instance(found) => add_use(used, found.module.name.as_slice()),
         ModuleItem::GenerateLoop(found) => add_block_uses(&found.body, used),
         ModuleItem::GenerateIf(found) => {
             for branch in &found.branches {
-                add_block_uses(&branch.body, used)?;
+                add_block_uses(&branch.body, used);
             }
-            match &found.otherwise {
-                Some(block) => add_block_uses(block, used),
-                None => Ok(()),
+            if let Some(block) = &found.otherwise {
+                add_block_uses(block, used);
             }
         }
         ModuleItem::GenerateCase(found) => {
             for one in &found.items {
-                add_block_uses(&one.body, used)?;
+                add_block_uses(&one.body, used);
             }
-            Ok(())
         }
         ModuleItem::GenerateBlock(block) => add_block_uses(block, used),
-        _ => Ok(()),
+        _ => {}
     }
 }
 
 /// Adds the names of the modules of which a generate block makes instances.
 #[cycle(uses)]
-fn add_block_uses<'t>(
-    block: &'t GenerateBlock,
-    used: &mut IndexSet<&'t [u8]>,
-) -> Result<(), AllocError> {
+fn add_block_uses<'t>(block: &'t GenerateBlock, used: &mut UsedNames<'t>) {
     for item in &block.items {
-        add_uses(item, used)?;
+        add_uses(item, used);
     }
-    Ok(())
 }
 
 /// The names of the modules of which some module makes instances. Fails where memory is refused.
@@ -79,13 +85,23 @@ fn used_modules(
     alloc: Global,
     modules: &[ModuleDeclaration],
 ) -> Result<IndexSet<&[u8]>, AllocError> {
-    let mut used = IndexSet::new(alloc);
+    let mut used = UsedNames {
+        names: IndexSet::new(alloc),
+        lacks_memory: false,
+    };
     for module in modules {
         for item in &module.items {
-            add_uses(item, &mut used)?;
+            add_uses(item, &mut used);
         }
     }
-    Ok(used)
+    let UsedNames {
+        names,
+        lacks_memory,
+    } = used;
+    if lacks_memory {
+        return Err(AllocError);
+    }
+    Ok(names)
 }
 
 /// The numbers of the top modules, by the names of the modules of which some module makes instances. Fails where memory is

@@ -122,6 +122,7 @@ impl Elaboration<'_> {
     {
         let label = label_of(&assignment.identifier);
         let given = self.given_value(scope, label, source.local)?;
+        self.prepare_parameter(scope, source, assignment, given.is_some())?;
         let object = self
             .design
             .parameter(scope, source, given, &assignment.value)?;

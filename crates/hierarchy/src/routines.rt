@@ -12,13 +12,14 @@ impl Elaboration<'_> {
         let label = label_of(&source.identifier);
         let scope = self.design.open(around, label, None)?;
         self.design.add_routine(scope, source.token)?;
+        self.prepare_range(scope, &source.result.value_type.range)?;
         let found = self
             .design
             .variable_type(scope, source.result.kind, &source.result.value_type)?;
         self.design
             .declare_variable(scope, label, found.signed, found.range)?;
         for argument in &source.arguments {
-            self.design.declare_arguments(scope, argument)?;
+            self.declare_arguments(scope, argument)?;
         }
         self.declare_block_items(scope, source.items.as_slice())?;
         self.open_blocks(scope, &source.body)
@@ -31,7 +32,7 @@ impl Elaboration<'_> {
             .open(around, label_of(&source.identifier), None)?;
         self.design.add_routine(scope, source.token)?;
         for argument in &source.arguments {
-            self.design.declare_arguments(scope, argument)?;
+            self.declare_arguments(scope, argument)?;
         }
         self.declare_block_items(scope, source.items.as_slice())?;
         self.open_blocks(scope, &source.body)

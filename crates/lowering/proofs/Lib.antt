@@ -6,5 +6,6 @@ pub mod Views
 pub mod Lowered
 pub mod Variables
 pub mod Parts
+pub mod Boxed
 pub mod Steps
 pub mod Modules

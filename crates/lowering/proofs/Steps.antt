@@ -1,5 +1,5 @@
 -- What a statement stands for, from what its parts stand for.
-use Rattle.std.proofs.Common.{◌≡◌, ℕ, ◌+◌, ◌<◌, ◌≤◌, List, [], ◌∷◌, ◌++◌, map, length, get_or, take, Option, Some, None, append_assoc, refl, sym, ap, ◌∙◌, subst}
+use Rattle.std.proofs.Common.{◌≡◌, ℕ, ◌+◌, ◌<◌, ◌≤◌, true, List, [], ◌∷◌, ◌++◌, map, length, get_or, take, Option, Some, None, append_assoc, refl, sym, ap, ◌∙◌, subst}
 use Rattle.std.specs.Prelude.{Result, Ok, Err, IfOk}
 use Rattle.std.specs.Box.{box_value}
 use Rattle.std.specs.declared.boxed.Box.{Box}
@@ -11,6 +11,7 @@ use Rattle.model.specs.Syntax.{SourceStatement, registers_of}
 use Rattle.model.specs.SourceTrees.{source_expression_of, source_statement_of, source_expressions}
 use Rattle.model.specs.declared.tree.SourceStatement as program_core
 use Rattle.shaped_trees.specs.declared.shape.Shape.{Shape}
+use Rattle.syntax_tree.specs.declared.statements.AssignmentForm.{AssignmentForm}
 use Rattle.syntax_tree.specs.declared.statements.AssignmentForm.TheVariants.{Blocking, Nonblocking}
 use Rattle.syntax_tree.specs.declared.statements.BlockForm.TheVariants.{Sequential}
 use Rattle.syntax_tree.specs.declared.statements.CaseForm.TheVariants as cases
@@ -34,7 +35,7 @@ use Rattle.statement_parts.specs.Parts.{IsTargetOf, IsGivenDelay, whole_change}
 use Rattle.statement_parts.proofs.Meant.{NamesEvent}
 use Rattle.lowering.specs.Hidden.{HiddenList, Makes}
 use Rattle.lowering.specs.Prints.{Arguments, Shown, task_of, IsPrint}
-use Rattle.lowering.specs.Lowering.{IsSelfLowered, case_shape, count_tree, AreLowered, none_lowered, one_lowered, CaseMade, nothing_made, IsPartAdded, AddsItem, Lowers, lowers_block, lowers_assignment, lowers_later, lowers_delayed, lowers_awaited, lowers_wait, lowers_if, lowers_case, lowers_for, lowers_repeat, lowers_while, lowers_forever, lowers_trigger, lowers_print, lowers_finish, LowersAll, lowers_none, LowersBranches, no_branch, LowersOtherwise, no_else, one_else, LowersItems, no_item, IsDelayed, IsAwaited, IsWaitLoop, IsWhile, IsFor, IsRepeat}
+use Rattle.lowering.specs.Lowering.{IsSelfLowered, case_shape, count_tree, AreLowered, none_lowered, one_lowered, CaseMade, nothing_made, IsPartAdded, AddsItem, Lowers, lowers_block, lowers_assignment, gives_time, lowers_time, lowers_later, lowers_delayed, lowers_awaited, lowers_wait, lowers_if, lowers_case, lowers_for, lowers_repeat, lowers_while, lowers_forever, lowers_trigger, lowers_print, lowers_finish, lowers_dump, LowersAll, lowers_none, LowersBranches, no_branch, LowersOtherwise, no_else, one_else, LowersItems, no_item, IsDelayed, IsAwaited, IsWaitLoop, IsWhile, IsFor, IsRepeat}
 use Rattle.lowering.proofs.Lowered.{all_push, branches_push, items_push, default_push}
 use Rattle.lowering.proofs.Shapes.{selector_in}
 use Rattle.statement_parts.proofs.Nodes.{viewed_item, viewed_branch}
@@ -61,6 +62,17 @@ assigned d n scope at width target value timing name delay made s e is after rig
     (subst (λ (k : Names). IsGivenDelay k timing delay) e after)
     (subst (λ (k : Names). IsLowered k (meaning k value) (assigned_shape (meaning k value) width) made) e right))
 
+-- target = $time
+pub timed : (d : Surroundings) (n : Names) (scope at width : ℕ) (target value : Expression) (name : SourceText) (s : SourceStatement) (form : AssignmentForm) (delay : Option ℕ) (timing : Option PlainTiming) → n ≡ d.names scope
+    → IsTargetOf n target name width → IsGivenDelay n timing delay → gives_time form delay value ≡ true → s ≡ core.Now name → Lowers d scope (plain.Assignment at form target timing value) s []
+timed d n scope at width target value name s Blocking None None e is after time same =
+    lowered_to d scope (plain.Assignment at Blocking target None value) s (core.Now name) [] same (lowers_time scope at width target value name (subst (λ (k : Names). IsTargetOf k target name width) e is) time)
+timed d n scope at width target value name s Blocking None (Some (plain.AfterDelay x)) e is after time same = absurd after
+timed d n scope at width target value name s Blocking None (Some (plain.AfterEvent c)) e is after time same = absurd after
+timed d n scope at width target value name s Blocking None (Some (plain.AfterEvents k c)) e is after time same = absurd after
+timed d n scope at width target value name s Blocking (Some x) timing e is after time same = absurd (cc time)
+timed d n scope at width target value name s Nonblocking delay timing e is after time same = absurd (cc time)
+
 -- target <= value
 pub assigned_later : (d : Surroundings) (n : Names) (scope at width : ℕ) (target value : Expression) (timing : Option PlainTiming) (name : SourceText) (delay : Option ℕ) (made : core.Expression SourceText) (s : SourceStatement) → n ≡ d.names scope
     → IsTargetOf n target name width → IsGivenDelay n timing delay → IsLowered n (meaning n value) (assigned_shape (meaning n value) width) made → s ≡ core.AssignLater name delay made
@@ -80,6 +92,10 @@ event_happens d scope at e name s is same =
 -- $finish and $stop
 pub finished : (d : Surroundings) (scope at : ℕ) (name : SourceText) (arguments : Arguments) (s : SourceStatement) → plain.EndsRun name → s ≡ core.Finish → Lowers d scope (plain.SystemTaskCall at name arguments) s []
 finished d scope at name arguments s ends same = lowered_to d scope (plain.SystemTaskCall at name arguments) s core.Finish [] same (lowers_finish scope at name arguments ends)
+
+-- a task that writes waves
+pub dumped : (d : Surroundings) (scope at : ℕ) (name : SourceText) (arguments : Arguments) (s : SourceStatement) → plain.is_dump_task name ≡ true → s ≡ core.Empty → Lowers d scope (plain.SystemTaskCall at name arguments) s []
+dumped d scope at name arguments s is same = lowered_to d scope (plain.SystemTaskCall at name arguments) s core.Empty [] same (lowers_dump scope at name arguments is)
 
 -- a task that prints
 pub printed : (d : Surroundings) (n : Names) (path : SourceText) (scope at : ℕ) (name : SourceText) (task : Task) (arguments : Arguments) (shown : Shown) (s : SourceStatement) → n ≡ d.names scope → path ≡ d.path scope → task_of name ≡ Some task

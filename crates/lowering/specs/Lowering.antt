@@ -7,6 +7,7 @@ use Rattle.model.specs.Syntax as core
 use Rattle.model.specs.Syntax.{SourceStatement, registers_of}
 use Rattle.model.specs.SourceTrees.{source_expressions}
 use Rattle.shaped_trees.specs.declared.shape.Shape.{Shape}
+use Rattle.syntax_tree.specs.declared.statements.AssignmentForm.{AssignmentForm}
 use Rattle.syntax_tree.specs.declared.statements.AssignmentForm.TheVariants.{Blocking, Nonblocking}
 use Rattle.syntax_tree.specs.declared.statements.BlockForm.TheVariants.{Sequential}
 use Rattle.syntax_tree.specs.declared.statements.CaseForm.TheVariants as cases
@@ -20,6 +21,7 @@ use Rattle.statement_forms.specs.Forms.{PlainBranch, block, while_true, forever,
 use Rattle.statement_parts.specs.Statements as plain
 use Rattle.statement_parts.specs.Statements.{SourceText, PlainStatement, PlainStatements, PlainBranches, PlainOtherwise, PlainItems, PlainControl, PlainTiming, PlainAssignment}
 use Rattle.statement_parts.specs.Surroundings.{Surroundings, inner_scope}
+use Rattle.statement_parts.specs.Times.{is_time}
 use Rattle.statement_parts.specs.Parts.{IsTargetOf, IsDelayNumber, IsGivenDelay, whole_change, AreControlEvents}
 use Rattle.lowering.specs.Hidden.{HiddenList}
 use Rattle.lowering.specs.Prints.{Arguments, Shown, task_of, IsPrint}
@@ -27,6 +29,11 @@ use Rattle.lowering.specs.Prints.{Arguments, Shown, task_of, IsPrint}
 -- the right side of an assignment to a variable of a width (5.5.3)
 abbrev pub IsRightSide : Names → ℕ → Expression → core.Expression SourceText → Type 0
 IsRightSide n width value made = IsLowered n (meaning n value) (assigned_shape (meaning n value) width) made
+
+-- whether an assignment gives the time at once (17.7.1)
+abbrev pub gives_time : AssignmentForm → Option ℕ → Expression → Bool
+gives_time Blocking None value = is_time value
+gives_time form delay value = false
 
 -- an expression on its own
 abbrev pub IsSelfLowered : Names → Expression → core.Expression SourceText → Type 0
@@ -85,6 +92,9 @@ mutual
     lowers_assignment : (scope at width : ℕ) (target value : Expression) (timing : Option PlainTiming) (name : SourceText) (delay : Option ℕ) (made : core.Expression SourceText)
         → IsTargetOf (d.names scope) target name width → IsGivenDelay (d.names scope) timing delay → IsRightSide (d.names scope) width value made
         → Lowers d scope (plain.Assignment at Blocking target timing value) (core.Assign name delay made) []
+    -- target = $time (17.7.1)
+    lowers_time : (scope at width : ℕ) (target value : Expression) (name : SourceText) → IsTargetOf (d.names scope) target name width → is_time value ≡ true
+        → Lowers d scope (plain.Assignment at Blocking target None value) (core.Now name) []
     -- target <= value (9.2.2)
     lowers_later : (scope at width : ℕ) (target value : Expression) (timing : Option PlainTiming) (name : SourceText) (delay : Option ℕ) (made : core.Expression SourceText)
         → IsTargetOf (d.names scope) target name width → IsGivenDelay (d.names scope) timing delay → IsRightSide (d.names scope) width value made
@@ -128,6 +138,8 @@ mutual
         → Lowers d scope (plain.SystemTaskCall at name arguments) (core.PrintPieces task shown.0 (source_expressions shown.1)) []
     -- $finish and $stop (17.4)
     lowers_finish : (scope at : ℕ) (name : SourceText) (arguments : Arguments) → plain.EndsRun name → Lowers d scope (plain.SystemTaskCall at name arguments) core.Finish []
+    -- $dumpvars and its kin (18.1)
+    lowers_dump : (scope at : ℕ) (name : SourceText) (arguments : Arguments) → plain.is_dump_task name ≡ true → Lowers d scope (plain.SystemTaskCall at name arguments) core.Empty []
 
   -- each statement of some, in their order
   pub data LowersAll (d : Surroundings) : ℕ → PlainStatements → List SourceStatement → HiddenList → Type 0 where

@@ -50,7 +50,8 @@ short_conversion_of_letter letter signed =
     else (if letter == 104 then Some conversion.ShortHex
     else (if letter == 120 then Some conversion.ShortHex
     else (if letter == 100 then Some (short_decimal_of signed)
-    else (if letter == 115 then Some conversion.ShortCharacters else None)))))
+    else (if letter == 115 then Some conversion.ShortCharacters
+    else (if letter == 116 then Some conversion.Decimal else None))))))
 
 -- a letter as a small one
 abbrev pub small_letter : ℕ → ℕ

@@ -7,6 +7,7 @@ ghost use Rattle.syntax_tree.specs.Expressions.{plain_expression_of};
 ghost use Rattle.sizing.specs.Meanings.{meaning, own_shape};
 ghost use Rattle.sizing.specs.Typing.{IsLowered, joined_shape};
 ghost use Rattle.statement_forms.specs.Views.{core_expressions};
+ghost use Rattle.model.specs.Syntax as core;
 ghost use Rattle.lowering.specs.Lowering as spec;
 ghost use Rattle.statement_parts.specs.Statements.{plain_items_of};
 
@@ -113,6 +114,14 @@ fn zeros(width: Size) -> SourceExpression
     literal_of(Bits::from_u64(width.get(), 0))
 }
 
+/// Whether a count with a sign is negative. Fails where memory is refused.
+fn is_negative(alloc: Global, width: Size, count: &SourceExpression) -> MadeTree<SourceExpression>
+    ensures { IfOk result (λ made. source_expression_of made ≡ core.Binary BinaryOperator.SignedLess (source_expression_of count.now) (spec.zeros width)) }
+{
+    let compared = copied(alloc, count)?;
+    binary_of(alloc, BinaryOperator::SignedLess, compared, zeros(width))
+}
+
 /// A count of a shape, which is 0 where it has a sign and is negative. Fails where memory is refused.
 pub fn count_of(alloc: Global, shape: Shape, count: SourceExpression) -> MadeTree<SourceExpression>
     ensures { IfOk result (λ made. source_expression_of made ≡ spec.count_tree shape.signed shape.width (source_expression_of count)) }
@@ -120,12 +129,8 @@ pub fn count_of(alloc: Global, shape: Shape, count: SourceExpression) -> MadeTre
     if !shape.signed {
         return Ok(count);
     }
-    let compared = copied(alloc, &count)?;
-    let is_negative = binary_of(
-        alloc,
-        BinaryOperator::SignedLess,
-        compared,
-        zeros(shape.width),
-    )?;
-    conditional_of(alloc, is_negative, zeros(shape.width), count)
+    let count = Box::new(alloc, count)?;
+    let negative = is_negative(alloc, shape.width, &count)?;
+    let count = Box::into_inner(count);
+    conditional_of(alloc, negative, zeros(shape.width), count)
 }

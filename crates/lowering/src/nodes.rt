@@ -35,26 +35,25 @@ pub(crate) fn assign_later_of(
     SourceStatement::AssignLater(name, delay, value)
 }
 
-/// A statement behind a delay.
-pub(crate) fn delay_of(
-    alloc: Global,
-    delay: u64,
-    body: SourceStatement,
-) -> CoreNode<SourceStatement>
-    ensures { IfOk result (λ made. source_statement_of made ≡ core.Delay delay (source_statement_of body)) }
+/// The assignment of the time.
+pub(crate) fn now_of(name: String) -> SourceStatement
+    ensures { source_statement_of result ≡ core.Now (string_bytes name) }
 {
-    Ok(SourceStatement::Delay(delay, Box::new(alloc, body)?))
+    SourceStatement::Now(name)
+}
+
+/// A statement behind a delay.
+pub(crate) fn delay_of(delay: u64, body: Box<SourceStatement>) -> SourceStatement
+    ensures { source_statement_of result ≡ core.Delay delay (source_statement_of body.value) }
+{
+    SourceStatement::Delay(delay, body)
 }
 
 /// A statement behind an event control.
-pub(crate) fn await_of(
-    alloc: Global,
-    events: Vec<EventExpression>,
-    body: SourceStatement,
-) -> CoreNode<SourceStatement>
-    ensures { IfOk result (λ made. source_statement_of made ≡ core.Await (core_triggers events) (source_statement_of body)) }
+pub(crate) fn await_of(events: Vec<EventExpression>, body: Box<SourceStatement>) -> SourceStatement
+    ensures { source_statement_of result ≡ core.Await (core_triggers events) (source_statement_of body.value) }
 {
-    Ok(SourceStatement::Await(events, Box::new(alloc, body)?))
+    SourceStatement::Await(events, body)
 }
 
 /// Statements one after another.

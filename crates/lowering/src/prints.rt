@@ -98,6 +98,7 @@ fn short_conversion_of_letter(letter: u8, signed: bool) -> Option<Conversion>
         b'h' | b'x' => Some(Conversion::ShortHex),
         b'd' => Some(short_decimal_of(signed)),
         b's' => Some(Conversion::ShortCharacters),
+        b't' => Some(Conversion::Decimal),
         _ => None,
     }
 }

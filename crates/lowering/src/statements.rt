@@ -9,7 +9,8 @@ ghost use Rattle.syntax_tree.specs.Expressions.{plain_expression_of};
 ghost use Rattle.statement_parts.specs.Statements.{plain_of, name_in, plain_all_of, plain_branches_of, plain_item_of, plain_items_of, plain_assignment, plain_control, plain_argument, timing_of, otherwise_of};
 ghost use Rattle.lowering.specs.Hidden.{Makes, hidden_in};
 ghost use Rattle.statement_parts.specs.Places.{surroundings};
-ghost use Rattle.statement_parts.specs.Parts.{AreControlEvents};
+ghost use Rattle.statement_parts.specs.Parts.{AreControlEvents, whole_change};
+ghost use Rattle.model.specs.Syntax.{registers_of};
 ghost use Rattle.lowering.specs.Lowering as spec;
 ghost use Rattle.lowering.specs.Cases.{case_made};
 ghost use Rattle.statement_parts.specs.Statements as plain;
@@ -17,7 +18,7 @@ ghost use Rattle.statement_parts.specs.Statements as plain;
 use crate::choices::{case_shape, count_of, labels_at, lowered_at, refuse_dont_cares, shape_at};
 use crate::hidden::HiddenVariables;
 use crate::nodes::{
-    assign_later_of, assign_of, await_of, block_of, delay_of, one_of, print_of, while_of,
+    assign_later_of, assign_of, await_of, block_of, delay_of, now_of, one_of, print_of, while_of,
 };
 use crate::prints::{PrintPlace, print_shown, task_of};
 use model::tree::{EventExpression as CoreEvent, SourceExpression, SourceStatement};
@@ -31,6 +32,8 @@ use statement_parts::faults::{Lowered, StatementKind, fault};
 use statement_parts::place::Around;
 use statement_parts::reads::names_read;
 use statement_parts::targets::{event_name, events_at, target_at};
+use statement_parts::tasks::is_dump_task;
+use statement_parts::times::is_time;
 use statement_parts::waits::{changes_of, changes_of_names};
 use std::alloc::Global;
 use syntax_tree::expressions::{Identifier, VerilogExpression};
@@ -55,6 +58,21 @@ fn alone(around: Around<'_>, e: &VerilogExpression) -> Lowered<SourceExpression>
     Ok(made)
 }
 
+/// The same, in a box.
+fn alone_in_box(around: Around<'_>, e: &VerilogExpression) -> Lowered<Box<SourceExpression>>
+    ensures { IfOk result (λ made. spec.IsSelfLowered (names_in_scope around.entry.design.now.tree.scopes.items around.entry.design.now.objects.items around.entry.scope) (plain_expression_of e.now) (source_expression_of made.value)) }
+{
+    let made = alone(around, e)?;
+    Ok(Box::new(around.alloc, made)?)
+}
+
+/// Whether an assignment gives the time at once (17.7.1).
+fn gives_time(form: AssignmentForm, delay: Option<u64>, value: &VerilogExpression) -> bool
+    ensures { result ≡ spec.gives_time form delay (plain_expression_of value.now) }
+{
+    form == AssignmentForm::Blocking && delay.is_none() && is_time(value)
+}
+
 /// An assignment (9.2).
 fn assignment(
     around: Around<'_>,
@@ -70,6 +88,9 @@ fn assignment(
     let place = around.design.place(around.scope);
     let target = target_at(around.alloc, &place, token, target)?;
     let delay = given_delay_at(around.alloc, &place, token, timing)?;
+    if gives_time(form, delay, value) {
+        return Ok(now_of(target.name));
+    }
     let value = lower_assigned(around.alloc, &place, value, target.width)?;
     match form {
         AssignmentForm::Blocking => Ok(assign_of(target.name, delay, value)),
@@ -78,17 +99,18 @@ fn assignment(
 }
 
 /// An assignment of the head of a `for` (9.6).
-fn head(around: Around<'_>, source: &VariableAssignment) -> Lowered<SourceStatement>
-    ensures { IfOk result (λ made. spec.Lowers (surroundings around.entry.design.now) around.entry.scope (spec.head_assignment (plain_assignment source.now)) (source_statement_of made) []) }
+fn head(around: Around<'_>, source: &VariableAssignment) -> Lowered<Box<SourceStatement>>
+    ensures { IfOk result (λ made. spec.Lowers (surroundings around.entry.design.now) around.entry.scope (spec.head_assignment (plain_assignment source.now)) (source_statement_of made.value) []) }
 {
-    assignment(
+    let made = assignment(
         around,
         source.token,
         AssignmentForm::Blocking,
         &source.target,
         &None,
         &source.value,
-    )
+    )?;
+    Ok(Box::new(around.alloc, made)?)
 }
 
 /// A statement behind a delay (9.7.1).
@@ -96,14 +118,13 @@ fn delayed(
     around: Around<'_>,
     token: usize,
     delay: &VerilogExpression,
-    body: SourceStatement,
+    body: Box<SourceStatement>,
 ) -> Lowered<SourceStatement>
-    ensures { IfOk result (λ made. spec.IsDelayed (surroundings around.entry.design.now) around.entry.scope (plain_expression_of delay.now) (source_statement_of body) (source_statement_of made)) }
+    ensures { IfOk result (λ made. spec.IsDelayed (surroundings around.entry.design.now) around.entry.scope (plain_expression_of delay.now) (source_statement_of body.value) (source_statement_of made)) }
 {
     let place = around.design.place(around.scope);
     let delay = delay_at(around.alloc, &place, token, delay)?;
-    let made = delay_of(around.alloc, delay, body)?;
-    Ok(made)
+    Ok(delay_of(delay, body))
 }
 
 /// The events of an implicit event control before a statement: any change of what the statement reads (9.7.5). Refuses one that nothing
@@ -146,13 +167,27 @@ fn awaited(
     token: usize,
     control: &EventControl,
     s: &VerilogStatement,
-    body: SourceStatement,
+    body: Box<SourceStatement>,
 ) -> Lowered<SourceStatement>
-    ensures { IfOk result (λ made. spec.IsAwaited (surroundings around.entry.design.now) around.entry.scope (plain_control control.now) (plain_of s.now) (source_statement_of body) (source_statement_of made)) }
+    ensures { IfOk result (λ made. spec.IsAwaited (surroundings around.entry.design.now) around.entry.scope (plain_control control.now) (plain_of s.now) (source_statement_of body.value) (source_statement_of made)) }
 {
     let events = changes(around, token, control, s)?;
-    let made = await_of(around.alloc, events, body)?;
-    Ok(made)
+    Ok(await_of(events, body))
+}
+
+/// The changes that a `wait` for a condition is for (9.7.6). Refuses a condition that no variable changes.
+fn condition_changes(
+    around: Around<'_>,
+    token: usize,
+    condition: &SourceExpression,
+) -> Lowered<Vec<CoreEvent>>
+    ensures { IfOk result (λ made. core_triggers made ≡ map whole_change (registers_of (source_expression_of condition.now))) }
+{
+    let changes = changes_of(around.alloc, condition)?;
+    if changes.is_empty() {
+        return fault(token, StatementKind::ConstantWait);
+    }
+    Ok(changes)
 }
 
 /// A statement behind a condition that is waited for (9.7.6). Refuses one that no variable changes.
@@ -160,15 +195,14 @@ fn waiting(
     around: Around<'_>,
     token: usize,
     condition: &VerilogExpression,
-    body: SourceStatement,
+    body: Box<SourceStatement>,
 ) -> Lowered<SourceStatement>
-    ensures { IfOk result (λ made. spec.IsWaitLoop (surroundings around.entry.design.now) around.entry.scope (plain_expression_of condition.now) (source_statement_of body) (source_statement_of made)) }
+    ensures { IfOk result (λ made. spec.IsWaitLoop (surroundings around.entry.design.now) around.entry.scope (plain_expression_of condition.now) (source_statement_of body.value) (source_statement_of made)) }
 {
-    let tree = alone(around, condition)?;
-    let changes = changes_of(around.alloc, &tree)?;
-    if changes.is_empty() {
-        return fault(token, StatementKind::ConstantWait);
-    }
+    let tree = alone_in_box(around, condition)?;
+    let changes = condition_changes(around, token, &tree)?;
+    let tree = Box::into_inner(tree);
+    let body = Box::into_inner(body);
     let made = wait_of(around.alloc, tree, changes, body)?;
     Ok(made)
 }
@@ -196,7 +230,7 @@ fn ends_run(name: &[u8]) -> bool
     name == b"$finish".as_slice() || name == b"$stop".as_slice()
 }
 
-/// A system task's call (17.1, 17.4).
+/// A system task's call (17.1, 17.4, 18.1).
 fn system_task(
     around: Around<'_>,
     token: usize,
@@ -207,6 +241,9 @@ fn system_task(
 {
     if ends_run(name) {
         return Ok(SourceStatement::Finish);
+    }
+    if is_dump_task(name) {
+        return Ok(SourceStatement::Empty);
     }
     let Some(task) = task_of(name) else {
         return fault(token, StatementKind::SystemTask);
@@ -224,13 +261,13 @@ fn system_task(
 fn looping(
     around: Around<'_>,
     condition: &VerilogExpression,
-    body: SourceStatement,
+    body: Box<SourceStatement>,
 ) -> Lowered<SourceStatement>
-    ensures { IfOk result (λ made. spec.IsWhile (surroundings around.entry.design.now) around.entry.scope (plain_expression_of condition.now) (source_statement_of body) (source_statement_of made)) }
+    ensures { IfOk result (λ made. spec.IsWhile (surroundings around.entry.design.now) around.entry.scope (plain_expression_of condition.now) (source_statement_of body.value) (source_statement_of made)) }
 {
-    let tree = alone(around, condition)?;
-    let body = one_of(around.alloc, body)?;
-    Ok(while_of(tree, body))
+    let tree = alone_in_box(around, condition)?;
+    let body = one_of(around.alloc, Box::into_inner(body))?;
+    Ok(while_of(Box::into_inner(tree), body))
 }
 
 /// A `for` (9.6).
@@ -239,14 +276,20 @@ fn counting(
     start: &VariableAssignment,
     condition: &VerilogExpression,
     step: &VariableAssignment,
-    body: SourceStatement,
+    body: Box<SourceStatement>,
 ) -> Lowered<SourceStatement>
-    ensures { IfOk result (λ made. spec.IsFor (surroundings around.entry.design.now) around.entry.scope (plain_assignment start.now) (plain_expression_of condition.now) (plain_assignment step.now) (source_statement_of body) (source_statement_of made)) }
+    ensures { IfOk result (λ made. spec.IsFor (surroundings around.entry.design.now) around.entry.scope (plain_assignment start.now) (plain_expression_of condition.now) (plain_assignment step.now) (source_statement_of body.value) (source_statement_of made)) }
 {
     let first = head(around, start)?;
-    let tree = alone(around, condition)?;
+    let tree = alone_in_box(around, condition)?;
     let next = head(around, step)?;
-    let made = for_of(around.alloc, first, tree, next, body)?;
+    let made = for_of(
+        around.alloc,
+        Box::into_inner(first),
+        Box::into_inner(tree),
+        Box::into_inner(next),
+        Box::into_inner(body),
+    )?;
     Ok(made)
 }
 
@@ -256,16 +299,19 @@ fn repeated(
     hidden: &mut HiddenVariables,
     token: usize,
     count: &VerilogExpression,
-    body: SourceStatement,
+    body: Box<SourceStatement>,
 ) -> Lowered<SourceStatement>
-    ensures { IfOk result (λ made. Makes (hidden_in hidden.old) (hidden_in hidden.new) (spec.IsRepeat (surroundings around.entry.design.now) around.entry.scope (plain_expression_of count.now) (source_statement_of body) (source_statement_of made))) }
+    ensures { IfOk result (λ made. Makes (hidden_in hidden.old) (hidden_in hidden.new) (spec.IsRepeat (surroundings around.entry.design.now) around.entry.scope (plain_expression_of count.now) (source_statement_of body.value) (source_statement_of made))) }
 {
     let place = around.design.place(around.scope);
     let shape = shape_at(around.alloc, &place, count)?;
     let width = shape.width;
     let counted = alone(around, count)?;
     let tree = count_of(around.alloc, shape, counted)?;
+    let kept = Box::new(around.alloc, tree)?;
     let name = hidden.make(around.alloc, token, width)?;
+    let tree = Box::into_inner(kept);
+    let body = Box::into_inner(body);
     let made = repeat_of(around.alloc, name.as_str(), tree, body)?;
     Ok(made)
 }
@@ -282,13 +328,13 @@ impl CaseParts {
     }
 
     /// Adds what the default does. Refuses a second one.
-    fn add_default(&mut self, token: usize, body: SourceStatement) -> Lowered<()>
-        ensures { OnOk result (spec.IsPartAdded None (source_statement_of body) (case_made self.old) (case_made self.new)) }
+    fn add_default(&mut self, token: usize, body: Box<SourceStatement>) -> Lowered<()>
+        ensures { OnOk result (spec.IsPartAdded None (source_statement_of body.value) (case_made self.old) (case_made self.new)) }
     {
         if !self.otherwise.is_empty() {
             return fault(token, StatementKind::SeveralDefaults);
         }
-        self.otherwise.push(body)?;
+        self.otherwise.push(Box::into_inner(body))?;
         Ok(())
     }
 
@@ -297,11 +343,13 @@ impl CaseParts {
         &mut self,
         alloc: Global,
         condition: SourceExpression,
-        body: SourceStatement,
+        body: Box<SourceStatement>,
     ) -> Lowered<()>
-        ensures { OnOk result (spec.IsPartAdded (Some (source_expression_of condition)) (source_statement_of body) (case_made self.old) (case_made self.new)) }
+        ensures { OnOk result (spec.IsPartAdded (Some (source_expression_of condition)) (source_statement_of body.value) (case_made self.old) (case_made self.new)) }
     {
-        let body = one_of(alloc, body)?;
+        let condition = Box::new(alloc, condition)?;
+        let body = one_of(alloc, Box::into_inner(body))?;
+        let condition = Box::into_inner(condition);
         self.branches.push(Branch { condition, body })?;
         Ok(())
     }
@@ -314,10 +362,10 @@ impl CaseParts {
         hidden: &str,
         shape: &Shape,
         item: &CaseItem,
-        body: SourceStatement,
+        body: Box<SourceStatement>,
     ) -> Lowered<()>
         requires { spec.TakesAllIn (names_in_scope around.design.now.tree.scopes.items around.design.now.objects.items around.scope) shape.now (plain_item_of item.now).labels }
-        ensures { OnOk result (spec.AddsItem (surroundings around.entry.design.now) around.entry.scope shape.now hidden.now (plain_item_of item.now).labels (source_statement_of body) (case_made self.old) (case_made self.new)) }
+        ensures { OnOk result (spec.AddsItem (surroundings around.entry.design.now) around.entry.scope shape.now hidden.now (plain_item_of item.now).labels (source_statement_of body.value) (case_made self.old) (case_made self.new)) }
     {
         let place = around.design.place(around.scope);
         let trees = labels_at(around.alloc, &place, shape, item.labels.as_slice())?;
@@ -395,7 +443,7 @@ pub fn lower_statement(
             lower_block(around, hidden, *token, name, body.as_slice())
         }
         VerilogStatement::Delayed { token, delay, body } => {
-            let late = lower_statement(around, hidden, body)?;
+            let late = lower_in_box(around, hidden, body)?;
             delayed(around, *token, delay, late)
         }
         VerilogStatement::Awaited {
@@ -403,7 +451,7 @@ pub fn lower_statement(
             control,
             body,
         } => {
-            let woken = lower_statement(around, hidden, body)?;
+            let woken = lower_in_box(around, hidden, body)?;
             awaited(around, *token, control, body, woken)
         }
         VerilogStatement::Wait {
@@ -411,7 +459,7 @@ pub fn lower_statement(
             condition,
             body,
         } => {
-            let behind = lower_statement(around, hidden, body)?;
+            let behind = lower_in_box(around, hidden, body)?;
             waiting(around, *token, condition, behind)
         }
         VerilogStatement::If {
@@ -440,11 +488,11 @@ pub fn lower_statement(
             body,
             ..
         } => {
-            let turn = lower_statement(around, hidden, body)?;
+            let turn = lower_in_box(around, hidden, body)?;
             counting(around, start, condition, step, turn)
         }
         VerilogStatement::Repeat { token, count, body } => {
-            let again = lower_statement(around, hidden, body)?;
+            let again = lower_in_box(around, hidden, body)?;
             repeated(around, hidden, *token, count, again)
         }
         VerilogStatement::While {
@@ -452,7 +500,7 @@ pub fn lower_statement(
             body,
             ..
         } => {
-            let inner = lower_statement(around, hidden, body)?;
+            let inner = lower_in_box(around, hidden, body)?;
             looping(around, condition, inner)
         }
         VerilogStatement::Forever { body, .. } => {
@@ -462,6 +510,19 @@ pub fn lower_statement(
         }
         _ => without_body(around, s),
     }
+}
+
+/// The same, in a box.
+#[cycle(lowering)]
+fn lower_in_box(
+    around: Around<'_>,
+    hidden: &mut HiddenVariables,
+    s: &VerilogStatement,
+) -> Lowered<Box<SourceStatement>>
+    ensures { IfOk result (λ made. Makes (hidden_in hidden.old) (hidden_in hidden.new) (spec.Lowers (surroundings around.entry.design.now) around.entry.scope (plain_of s.now) (source_statement_of made.value))) }
+{
+    let made = lower_statement(around, hidden, s)?;
+    Ok(Box::new(around.alloc, made)?)
 }
 
 /// What a block stands for (9.8.1).
@@ -508,9 +569,10 @@ fn lower_branches(
 {
     let mut made = Vec::new(around.alloc);
     for branch in branches {
-        let condition = alone(around, &branch.condition)?;
+        let condition = alone_in_box(around, &branch.condition)?;
         let next = lower_statement(around, hidden, &branch.body)?;
         let body = one_of(around.alloc, next)?;
+        let condition = Box::into_inner(condition);
         made.push(Branch { condition, body })?;
     }
     Ok(made)
@@ -551,8 +613,10 @@ fn lower_case(
     let shape = case_shape(alloc, &place, selector, items)?;
     let width = shape.width;
     let tree = lowered_at(alloc, &place, &shape, selector)?;
+    let kept = Box::new(alloc, tree)?;
     let name = hidden.make(alloc, token, width)?;
     let parts = lower_items(around, hidden, &shape, name.as_str(), items)?;
+    let tree = Box::into_inner(kept);
     let CaseParts {
         branches,
         otherwise,
@@ -576,7 +640,7 @@ fn lower_items(
 {
     let mut parts = CaseParts::new(around.alloc);
     for item in items {
-        let body = lower_statement(around, hidden, &item.body)?;
+        let body = lower_in_box(around, hidden, &item.body)?;
         parts.add_item(around, name, shape, item, body)?;
     }
     Ok(parts)

@@ -19,6 +19,7 @@ use Rattle.waves.specs.ScopedDump.{PlainScope, plain_scope, scoped_text}
 use Rattle.waves.specs.declared.scoped.ShownScope.{ShownScope}
 use Rattle.waves.specs.declared.wave.Wave.{Wave}
 use Rattle.whole_designs.specs.declared.whole.DesignScope.{DesignScope}
+use Rattle.whole_designs.specs.declared.whole.DesignScopes.{DesignScopes}
 use Rattle.preprocess.specs.declared.preprocess.Definition.{Definition}
 use Rattle.whole_designs.specs.declared.whole.WholeDesign.{WholeDesign}
 use Rattle.whole_designs.specs.Wholes.{IsWholeDesignOf}
@@ -224,7 +225,7 @@ dump_is (texts.Profile source) design (scopes.One name) wave text (is, named) e 
 dump_is (texts.Profile source) design (scopes.Several all) wave text is e = absurd is
 dump_is (texts.Whole whole) design (scopes.One name) wave text is e = absurd is
 dump_is (texts.Whole whole) design (scopes.Several all) wave text (made, from_files, made_is, scopes_are) e =
-    (made, from_files, made_is, e ∙ ap (λ (ss : Vec DesignScope). scoped_text (map plain_design_scope ss.items) design.names design.widths wave.changes.items wave.end) scopes_are)
+    (made, from_files, made_is, e ∙ ap (λ (ss : DesignScopes). scoped_text ss.tick (map plain_design_scope ss.scopes.items) design.names design.widths wave.changes.items wave.end) scopes_are)
 
 pub dump_made : (from : Sources) (file : List ℕ) (found : SourceTexts) (result : Judged DumpedDesign) (dumped : DumpedDesign) (journal : List Entry) (text : List ℕ) → AreTextsAt from.held file from.words found
     → IfJudged found result (IsDumpedOf found) → result ≡ judged.Taken dumped → IsDumpTextOf dumped journal text → IsDumpOf from file dumped.design journal text

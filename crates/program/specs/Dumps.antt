@@ -44,7 +44,7 @@ IsDumpedOf found dumped = IsDumpedIn found dumped.design dumped.scopes
 -- the text of a wave in such scopes
 abbrev pub dump_text_in : DumpedScopes → Compiled → Wave → List ℕ
 dump_text_in (scopes.One name) design wave = vcd_text (string_bytes name) design.names design.widths wave.changes.items wave.end
-dump_text_in (scopes.Several all) design wave = scoped_text (map plain_design_scope all.items) design.names design.widths wave.changes.items wave.end
+dump_text_in (scopes.Several all) design wave = scoped_text all.tick (map plain_design_scope all.scopes.items) design.names design.widths wave.changes.items wave.end
 
 -- this is the text of a journal's wave
 pub record IsDumpTextOf (dumped : DumpedDesign) (journal : List Entry) (text : List ℕ) : Type 0 where

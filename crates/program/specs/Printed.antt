@@ -417,7 +417,7 @@ IsDumpText (texts.Profile source) design wave text =
     IsDesignOf source.items design × ((parsed : Module) × Spells parsed source.items × (text ≡ vcd_text parsed.name design.names design.widths wave.changes.items wave.end))
 IsDumpText (texts.Whole whole) design wave text =
     (made : WholeDesign) × IsModuleOf whole.files.items whole.words.now made × IsModuleDesign made design
-    × (text ≡ scoped_text (map plain_design_scope made.scopes.items) design.names design.widths wave.changes.items wave.end)
+    × (text ≡ scoped_text made.scopes.tick (map plain_design_scope made.scopes.scopes.items) design.names design.widths wave.changes.items wave.end)
 
 -- This is the value change dump of a journal on the design that is asked for: the text of the journal's wave.
 pub record IsDumpOf (from : Sources) (file : List ℕ) (design : Compiled) (journal : List Entry) (text : List ℕ) : Type 0 where

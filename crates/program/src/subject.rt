@@ -27,7 +27,7 @@ use preprocess::includes::KnownFile;
 use preprocess::preprocess::Definition;
 use std::alloc::{AllocError, Global};
 use whole_designs::asked::{AskedDesign, GivenParameter};
-use whole_designs::whole::{DesignScope, WholeDesign, whole_design};
+use whole_designs::whole::{DesignScopes, WholeDesign, whole_design};
 
 /// What a command asks for a design: FILE, and what words ask for a whole design, where they do.
 #[derive(Clone, Copy)]
@@ -64,7 +64,7 @@ pub struct DesignSubject {
     pub design: Design,
     pub processes: Vec<ProcessLocation>,
     pub source: Vec<u8>,
-    pub scopes: Vec<DesignScope>,
+    pub scopes: DesignScopes,
 }
 
 /// What comes of the texts of a whole design with the files that are known: how they are judged, or a path at which a file that they include is
@@ -470,7 +470,7 @@ pub fn judged_subject<F: Files>(
                 design,
                 processes,
                 source,
-                scopes: Vec::new(alloc),
+                scopes: DesignScopes::none(alloc),
             }))
         }
         SourceTexts::Whole(texts) => judged_whole(alloc, texts, files),

@@ -30,7 +30,7 @@ use replay::BytesFault;
 use std::alloc::{AllocError, Global};
 use vparse::parse;
 use waves::{ShownScope, Wave, WaveFault, scoped_dump, value_change_dump, waves};
-use whole_designs::whole::DesignScope;
+use whole_designs::whole::{DesignScope, DesignScopes};
 
 /// Writes the value change dump of JOURNAL on FILE to OUT. Standard output is left as it is, whatever it holds.
 pub fn dump_waves<'a, F: Files>(
@@ -68,7 +68,7 @@ pub fn dump_waves<'a, F: Files>(
 #[derive(Drop)]
 enum DumpedScopes {
     One(String),
-    Several(Vec<DesignScope>),
+    Several(DesignScopes),
 }
 
 /// A design, and the scopes in which its registers are shown.
@@ -179,8 +179,8 @@ fn text_of_wave(alloc: Global, dumped: &DumpedDesign, wave: &Wave) -> Result<Vec
     match &dumped.scopes {
         DumpedScopes::One(name) => value_change_dump(alloc, name.as_str(), &dumped.design, wave),
         DumpedScopes::Several(scopes) => {
-            let shown = dump_scopes(alloc, scopes.as_slice())?;
-            scoped_dump(alloc, shown.as_slice(), &dumped.design, wave)
+            let shown = dump_scopes(alloc, scopes.scopes.as_slice())?;
+            scoped_dump(alloc, scopes.tick, shown.as_slice(), &dumped.design, wave)
         }
     }
 }

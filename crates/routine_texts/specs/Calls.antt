@@ -1,16 +1,17 @@
--- Whether the call of a function stands in an expression (IEEE 1364-2005, 10.4.4).
+-- Whether a call stands in an expression: of a function (IEEE 1364-2005, 10.4.4), or of one of the time (17.7).
 use Rattle.std.specs.Prelude.{Bool, true, false, ◌||◌}
+use Rattle.statement_parts.specs.Times.{is_time_function}
 use Rattle.syntax_tree.specs.Expressions as source
 use Rattle.syntax_tree.specs.Expressions.{Expression, Expressions}
 
--- whether a function's call stands in an expression
+-- whether a function's call, or the time, stands in an expression
 abbrev mutual
   pub calls_in : Expression → Bool
   calls_in (source.Call at function arguments) = true
   calls_in (source.Member at base name) = calls_in base
   calls_in (source.Index at base i) = calls_in base || calls_in i
   calls_in (source.Part at form base first second) = calls_in base || (calls_in first || calls_in second)
-  calls_in (source.SystemCall at name arguments) = calls_in_any arguments
+  calls_in (source.SystemCall at name arguments) = is_time_function name || calls_in_any arguments
   calls_in (source.Concatenation at parts) = calls_in_any parts
   calls_in (source.Replication at count parts) = calls_in count || calls_in_any parts
   calls_in (source.Unary at op e) = calls_in e

@@ -1,9 +1,11 @@
-//! The first call of a function in an expression, and whether statements have calls.
+//! The first call of a function in an expression, one of the time among them, and whether statements have calls.
 
 ghost use Rattle.std.specs.Prelude.{◌≡◌, ◌||◌, is_some, map};
 ghost use Rattle.syntax_tree.specs.Expressions.{plain_expression_of, plain_expressions};
+ghost use Rattle.statement_parts.specs.Times.{is_time_function};
 ghost use Rattle.routine_texts.specs.Calls.{calls_in, calls_in_any};
 
+use statement_parts::times::is_time_function;
 use syntax_tree::expressions::VerilogExpression;
 use syntax_tree::statements::{
     AssignmentTiming, CaseItem, ConditionalBranch, VariableAssignment, VerilogStatement,
@@ -19,7 +21,18 @@ fn either(first: Option<usize>, second: Option<usize>) -> Option<usize>
     }
 }
 
-/// The token of the first call of a function in an expression.
+/// The token of a system function, where it is one of the time.
+fn time_token(token: usize, name: &[u8]) -> Option<usize>
+    ensures { is_some result ≡ is_time_function name.now }
+{
+    if is_time_function(name) {
+        Some(token)
+    } else {
+        None
+    }
+}
+
+/// The token of the first call in an expression: of a function, or of one of the time.
 #[cycle(first)]
 pub fn first_call(e: &VerilogExpression) -> Option<usize>
     ensures { is_some result ≡ calls_in (plain_expression_of e.now) }
@@ -37,7 +50,14 @@ pub fn first_call(e: &VerilogExpression) -> Option<usize>
             first_call(base),
             either(first_call(first), first_call(second)),
         ),
-        VerilogExpression::SystemCall { arguments, .. } => first_of(arguments.as_slice()),
+        VerilogExpression::SystemCall {
+            token,
+            name,
+            arguments,
+        } => either(
+            time_token(*token, name.as_slice()),
+            first_of(arguments.as_slice()),
+        ),
         VerilogExpression::Concatenation { parts, .. } => first_of(parts.as_slice()),
         VerilogExpression::Replication { count, parts, .. } => {
             either(first_call(count), first_of(parts.as_slice()))

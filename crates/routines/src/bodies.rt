@@ -41,7 +41,8 @@ fn operator_token(e: &VerilogExpression) -> (usize, bool) {
 }
 
 impl<'r, 't> Expansion<'r, 't> {
-    /// What holds the value of a function's call; what it does is added to statements that are done before (10.4.4).
+    /// What holds the value of a function's call; what it does is added to statements that are done before (10.4.4). Refuses one in a
+    /// `$strobe`.
     #[cycle(expansion)]
     pub(crate) fn function_call(
         &mut self,
@@ -51,6 +52,9 @@ impl<'r, 't> Expansion<'r, 't> {
         arguments: &[VerilogExpression],
         out: &mut Vec<VerilogStatement>,
     ) -> Lowered<VerilogExpression> {
+        if at.in_strobe {
+            return fault(token, StatementKind::CallInStrobe);
+        }
         let (of, routine) = self.called(at, token, RoutineKind::Function, function)?;
         let call = self.body_of_call(at, token, (of, routine), arguments, out)?;
         if routine.has_own_variables() {
@@ -172,6 +176,7 @@ impl<'r, 't> Expansion<'r, 't> {
             scope: call.inner,
             room: inner.room,
             in_function: at.in_function || routine.kind == RoutineKind::Function,
+            in_strobe: false,
         };
         let body = self.body(spot, of, routine)?;
         let block = named_block_node(alloc, token, call.name.as_slice(), body)?;

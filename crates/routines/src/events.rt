@@ -29,6 +29,7 @@ impl<'r, 't> Expansion<'r, 't> {
     pub(crate) fn timing(
         &mut self,
         at: StatementSpot,
+        token: usize,
         timing: &Option<Box<AssignmentTiming>>,
         out: &mut Vec<VerilogStatement>,
     ) -> Lowered<Option<Box<AssignmentTiming>>> {
@@ -37,8 +38,8 @@ impl<'r, 't> Expansion<'r, 't> {
         };
         match &**timing {
             AssignmentTiming::Delay(delay) => {
-                let delay = self.expression(at, delay, out)?;
-                self.kept_timing(AssignmentTiming::Delay(delay))
+                let delay = self.delay(at, token, delay, out)?;
+                self.kept_timing(AssignmentTiming::Delay(Box::into_inner(delay)))
             }
             AssignmentTiming::Event(control) => {
                 let control = self.copied_control(control)?;

@@ -5,21 +5,25 @@ ghost use Rattle.std.specs.Prelude.{◌≡◌, ◌+◌, ◌++◌, ◌∷◌, [],
 use call_nodes::copies::copied_expression;
 use call_nodes::nodes::{assignment_node, member_of, unknown_node};
 use call_scopes::copied::CallScopes;
+use constant_functions::calls::ConstantFunctions;
 use routine_texts::table::{Routine, RoutineKind, routine_at};
 use scopes::scope::{Entity, Reach};
 use sizing::environment::ObjectValue;
 use sizing::lowering::named_scope;
 use statement_parts::faults::{Lowered, StatementKind, fault};
+use statement_parts::scales::ModuleScale;
 use std::alloc::Global;
 use syntax_tree::expressions::VerilogExpression;
 use syntax_tree::statements::VerilogStatement;
 
-/// Where a statement stands: its scope, how many statements may stand in it still, and whether a function's body is around it.
+/// Where a statement stands: its scope, how many statements may stand in it still, whether a function's body is around it, and whether
+/// its arguments are read later, as those of a `$strobe`.
 #[derive(Clone, Copy)]
 pub(crate) struct StatementSpot {
     pub(crate) scope: usize,
     pub(crate) room: u32,
     pub(crate) in_function: bool,
+    pub(crate) in_strobe: bool,
 }
 
 /// A call: the name by which the scope with its variables is known where it stands, that scope, and the function's or task's own.
@@ -36,6 +40,9 @@ pub(crate) struct Expansion<'r, 't> {
     pub(crate) alloc: Global,
     pub(crate) scopes: CallScopes,
     pub(crate) routines: &'r [Routine<'t>],
+    pub(crate) functions: ConstantFunctions<'t>,
+    /// The scales of time of the modules, in the order of their tokens.
+    pub(crate) scales: &'r [ModuleScale],
     /// The scopes of the functions and tasks in whose bodies the statement stands.
     pub(crate) open: Vec<usize>,
 }

@@ -1,13 +1,39 @@
-//! Expressions whose calls are taken out of them, before the statement in which they stand.
+//! Expressions whose calls, and those of the time, are taken out of them, before the statement in which they stand.
+
+ghost use Rattle.std.specs.Prelude.{◌≡◌, true, false, IfOk};
+ghost use Rattle.syntax_tree.specs.Expressions as source;
+ghost use Rattle.syntax_tree.specs.Expressions.{plain_expression_of};
 
 use crate::expansion::{Expansion, StatementSpot, add, inside};
 use call_nodes::copies::copied_expression;
 use call_nodes::nodes::{block_node, choice_node, unless_node};
+use design_scopes::places::{ScopePlace, value_at};
 use routine_texts::calls::first_call;
 use scopes::scope::copied;
+use shaped_trees::constants::Constant;
 use statement_parts::faults::Lowered;
-use syntax_tree::expressions::VerilogExpression;
+use statement_parts::times::is_time_function;
+use std::alloc::{AllocError, Global};
+use syntax_tree::expressions::{PartForm, VerilogExpression};
 use syntax_tree::statements::VerilogStatement;
+
+/// The number of a constant, at its size and sign. Fails where memory is refused.
+fn number_node(
+    alloc: Global,
+    token: usize,
+    value: Constant,
+) -> Result<VerilogExpression, AllocError>
+    ensures { IfOk result (λ made. plain_expression_of made ≡ source.Number token true value.signed false value.digits) }
+{
+    let digits = Box::new(alloc, value.digits)?;
+    Ok(VerilogExpression::Number {
+        token,
+        sized: true,
+        signed: value.signed,
+        cut: false,
+        digits,
+    })
+}
 
 impl<'r, 't> Expansion<'r, 't> {
     /// An expression in which the variables of calls stand in the place of these; what they stand for is added to statements that
@@ -53,8 +79,11 @@ impl<'r, 't> Expansion<'r, 't> {
                 token: *token,
                 form: *form,
                 base: self.boxed(at, base, out)?,
-                first: self.boxed(at, first, out)?,
-                second: self.boxed(at, second, out)?,
+                first: match form {
+                    PartForm::Constant => self.constant(at, first)?,
+                    _ => self.boxed(at, first, out)?,
+                },
+                second: self.constant(at, second)?,
             }),
             _ => self.operation(at, e, out),
         }
@@ -73,11 +102,16 @@ impl<'r, 't> Expansion<'r, 't> {
                 token,
                 name,
                 arguments,
-            } => Ok(VerilogExpression::SystemCall {
-                token: *token,
-                name: copied(self.alloc, name.as_slice())?,
-                arguments: self.each(at, arguments.as_slice(), out)?,
-            }),
+            } => {
+                if is_time_function(name.as_slice()) {
+                    return self.time(at, *token, name.as_slice(), arguments.as_slice(), out);
+                }
+                Ok(VerilogExpression::SystemCall {
+                    token: *token,
+                    name: copied(self.alloc, name.as_slice())?,
+                    arguments: self.each(at, arguments.as_slice(), out)?,
+                })
+            }
             VerilogExpression::Concatenation { token, parts } => Ok(
                 VerilogExpression::Concatenation {
                     token: *token,
@@ -90,7 +124,7 @@ impl<'r, 't> Expansion<'r, 't> {
                 parts,
             } => Ok(VerilogExpression::Replication {
                 token: *token,
-                count: self.boxed(at, count, out)?,
+                count: self.constant(at, count)?,
                 parts: self.each(at, parts.as_slice(), out)?,
             }),
             VerilogExpression::Unary {
@@ -115,6 +149,36 @@ impl<'r, 't> Expansion<'r, 't> {
             }),
             _ => Ok(copied_expression(self.alloc, e)?),
         }
+    }
+
+    /// The number that a constant expression with calls is worth (10.4.5).
+    fn constant_node(
+        &mut self,
+        at: StatementSpot,
+        token: usize,
+        e: &VerilogExpression,
+    ) -> Lowered<VerilogExpression> {
+        let place = self.scopes.design.place(at.scope);
+        let calls = self.functions.calls_in(place, token, &[e])?;
+        let known = ScopePlace {
+            calls: calls.as_slice(),
+            ..place
+        };
+        let value = value_at(self.alloc, &known, e)?;
+        Ok(number_node(self.alloc, token, value)?)
+    }
+
+    /// A constant expression in a box, with the number in its place that it is worth, where it has calls (10.4.5).
+    fn constant(
+        &mut self,
+        at: StatementSpot,
+        e: &VerilogExpression,
+    ) -> Lowered<Box<VerilogExpression>> {
+        let made = match first_call(e) {
+            Some(token) => self.constant_node(at, token, e)?,
+            None => copied_expression(self.alloc, e)?,
+        };
+        Ok(Box::new(self.alloc, made)?)
     }
 
     /// An expression in a box, likewise.
@@ -166,7 +230,8 @@ impl<'r, 't> Expansion<'r, 't> {
         })
     }
 
-    /// One of two expressions, with what it calls done unless the denied condition has a digit.
+    /// One of two expressions, with what it calls done unless the denied condition has a digit. In a `$strobe` the condition isn't known
+    /// yet, and only the time can be asked for, which is asked for anyway.
     #[cycle(expansion)]
     fn alternative(
         &mut self,
@@ -176,6 +241,9 @@ impl<'r, 't> Expansion<'r, 't> {
         e: &VerilogExpression,
         out: &mut Vec<VerilogStatement>,
     ) -> Lowered<Box<VerilogExpression>> {
+        if at.in_strobe {
+            return self.boxed(at, e, out);
+        }
         let mut before = Vec::new(self.alloc);
         let made = self.boxed(at, e, &mut before)?;
         self.guard(token, unless, before, out)?;

@@ -4,7 +4,8 @@
 //! 1. `expansion` finds what is called, and where statements stand.
 //! 2. `expressions` takes the calls out of expressions, and `bodies` puts what they stand for before a statement.
 //! 3. `statements` goes through statements, `choices` and `loops` through those that choose and turn, and `events` through what they wait for.
-//! 4. `processes` makes the processes of a design.
+//! 4. `times` makes ticks of delays, and variables of the time.
+//! 5. `processes` makes the processes of a design.
 //!
 //! The layer above uses `plain_processes`; specs/Designs.antt says what its answer is.
 #![tactic(auto)]
@@ -17,3 +18,4 @@ mod expressions;
 mod loops;
 pub mod processes;
 mod statements;
+mod times;

@@ -242,7 +242,7 @@ impl<'r, 't> Expansion<'r, 't> {
         made: Vec<VerilogStatement>,
         out: &mut Vec<VerilogStatement>,
     ) -> Lowered<()> {
-        let flag = self.scopes.declare_flag(at.scope, token)?;
+        let flag = self.scopes.declare_own(at.scope, token, b"while", None)?;
         add(out, flag_node(self.alloc, token, flag.as_slice(), 1)?)?;
         let mut turn = Vec::new(self.alloc);
         let condition = self.boxed(at, condition, &mut turn)?;

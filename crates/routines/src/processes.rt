@@ -7,11 +7,13 @@ ghost use Rattle.routines.specs.Designs.{AreMadeForPlaced, IsAmong, IsMadeForDes
 
 use crate::expansion::{Expansion, StatementSpot};
 use call_scopes::copied::{CallScopes, made_for};
+use constant_functions::calls::ConstantFunctions;
 use design_scopes::scoped::{PlacedProcess, ScopedDesign};
 use routine_texts::finding::{process_at, processes_of};
 use routine_texts::table::{Routine, routines_of};
 use statement_parts::faults::{Lowered, StatementFault, StatementKind, fault};
 use statement_parts::plain::PlainProcess;
+use statement_parts::scales::ModuleScale;
 use std::alloc::{AllocError, Global};
 use std::mem;
 use syntax_tree::modules::{ModuleDeclaration, ProcessConstruct};
@@ -29,6 +31,7 @@ pub struct PlainDesign {
 /// The processes of a text, and its functions and tasks.
 #[derive(Drop)]
 struct ProcessTexts<'t> {
+    modules: &'t [ModuleDeclaration],
     processes: Vec<&'t ProcessConstruct>,
     routines: Vec<Routine<'t>>,
 }
@@ -40,6 +43,7 @@ fn texts_of(alloc: Global, modules: &[ModuleDeclaration]) -> Result<ProcessTexts
     let processes = processes_of(alloc, modules)?;
     let routines = routines_of(alloc, modules)?;
     Ok(ProcessTexts {
+        modules,
         processes,
         routines,
     })
@@ -60,6 +64,7 @@ fn plain_process(
         scope: placed.scope,
         room: MOST_DEEP,
         in_function: false,
+        in_strobe: false,
     };
     let body = expansion.whole(spot, &process.body)?;
     Ok(PlainProcess {
@@ -92,15 +97,19 @@ fn plain_bodies(
 fn plain_design(
     alloc: Global,
     texts: &ProcessTexts<'_>,
+    scales: &[ModuleScale],
     mut design: ScopedDesign,
 ) -> Lowered<PlainDesign>
     ensures { IfOk result (λ made. IsMadeForDesign (IsAmong texts.now.processes.items) design made) }
 {
+    let functions = ConstantFunctions::new(alloc, texts.modules)?;
     let placed = mem::replace(&mut design.processes, Vec::new(alloc));
     let mut expansion = Expansion {
         alloc,
         scopes: CallScopes::new(alloc, design),
         routines: texts.routines.as_slice(),
+        functions,
+        scales,
         open: Vec::new(alloc),
     };
     match plain_bodies(
@@ -118,8 +127,8 @@ fn plain_design(
     }
 }
 
-/// The processes of a design of modules, in their order, with the bodies of functions and tasks in the place of their calls; and the
-/// design, with the variables of the calls.
+/// The processes of a design of modules, in their order, with the bodies of functions and tasks in the place of their calls, and with delays
+/// in ticks, by the scales of the modules, in their order; and the design, with the variables of the calls.
 ///
 /// # Errors
 ///
@@ -127,12 +136,13 @@ fn plain_design(
 pub fn plain_processes(
     alloc: Global,
     modules: &[ModuleDeclaration],
+    scales: &[ModuleScale],
     design: ScopedDesign,
 ) -> Lowered<PlainDesign>
     ensures { IfOk result (λ made. IsPlainDesign modules.now design made) }
 {
     match texts_of(alloc, modules) {
-        Ok(texts) => plain_design(alloc, &texts, design),
+        Ok(texts) => plain_design(alloc, &texts, scales, design),
         Err(found) => Err(StatementFault::from(found)),
     }
 }

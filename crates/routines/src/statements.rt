@@ -9,9 +9,11 @@ use routine_texts::calls::{first_argument_call, first_call};
 use scopes::scope::copied;
 use statement_parts::faults::{Lowered, StatementKind, fault};
 use statement_parts::place::Around;
+use statement_parts::tasks::is_dump_task;
+use statement_parts::times::is_time;
 use std::alloc::Global;
 use syntax_tree::expressions::{Identifier, VerilogExpression};
-use syntax_tree::statements::{AssignmentForm, AssignmentTiming, BlockForm, VerilogStatement};
+use syntax_tree::statements::{AssignmentForm, BlockForm, VerilogStatement};
 
 /// Refuses a statement that a function may not have (10.4.4).
 fn refuse_in_function(at: StatementSpot, token: usize) -> Lowered<()> {
@@ -54,16 +56,37 @@ fn copied_label(alloc: Global, name: &Option<Identifier>) -> Lowered<Option<Iden
 }
 
 /// Whether an assignment is done later than where it stands.
-fn is_later(form: AssignmentForm, timing: &Option<Box<AssignmentTiming>>) -> bool {
-    timing.is_some() || form != AssignmentForm::Blocking
+fn is_later(form: AssignmentForm, is_timed: bool) -> bool {
+    is_timed || form != AssignmentForm::Blocking
 }
 
-/// Refuses calls of functions in a `$strobe`, whose arguments are read later (17.1.2).
-fn refuse_strobe(name: &[u8], arguments: &[Option<VerilogExpression>]) -> Lowered<()> {
-    if name.starts_with(b"$strobe") || name.starts_with(b"$monitor") {
+/// Refuses calls in a `$monitor`, whose arguments are read whenever they change (17.1.3).
+fn refuse_monitor(name: &[u8], arguments: &[Option<VerilogExpression>]) -> Lowered<()> {
+    if name.starts_with(b"$monitor") {
         return refuse_call(first_argument_call(arguments), StatementKind::CallInStrobe);
     }
     Ok(())
+}
+
+/// The arguments of a system task that are asked for: none of one that writes waves (18.1).
+fn arguments_of<'a>(
+    name: &[u8],
+    arguments: &'a [Option<VerilogExpression>],
+) -> &'a [Option<VerilogExpression>] {
+    if is_dump_task(name) {
+        return arguments.split_at(0).0;
+    }
+    arguments
+}
+
+/// Where the arguments of a system task stand: those of a `$strobe` are read later (17.1.2).
+fn in_task(at: StatementSpot, name: &[u8]) -> StatementSpot
+    ensures { result.room ≡ at.room }
+{
+    StatementSpot {
+        in_strobe: name.starts_with(b"$strobe"),
+        ..at
+    }
 }
 
 impl<'r, 't> Expansion<'r, 't> {
@@ -140,7 +163,7 @@ impl<'r, 't> Expansion<'r, 't> {
                 refuse_in_function(at, *token)?;
                 let inner = inside(at, *token)?;
                 let token = *token;
-                let delay = self.boxed(at, delay, out)?;
+                let delay = self.delay(at, token, delay, out)?;
                 let body = self.boxed_statement(inner, body)?;
                 let delay = Box::into_inner(delay);
                 add(out, VerilogStatement::Delayed { token, delay, body })
@@ -204,13 +227,22 @@ impl<'r, 't> Expansion<'r, 't> {
                 timing,
                 value,
             } => {
-                if is_later(*form, timing) {
-                    refuse_in_function(at, *token)?;
-                }
                 let (token, form) = (*token, *form);
+                let later = is_later(form, timing.is_some());
+                if later {
+                    refuse_in_function(at, token)?;
+                }
+                let is_now = is_time(value) && !later;
+                if is_now {
+                    self.refuse_scaled(token)?;
+                }
                 let target = self.boxed(at, target, out)?;
-                let timing = self.timing(at, timing, out)?;
-                let value = self.expression(at, value, out)?;
+                let timing = self.timing(at, token, timing, out)?;
+                let value = if is_now {
+                    copied_expression(self.alloc, value)?
+                } else {
+                    self.expression(at, value, out)?
+                };
                 let target = Box::into_inner(target);
                 add(
                     out,
@@ -339,8 +371,8 @@ impl<'r, 't> Expansion<'r, 't> {
         arguments: &[Option<VerilogExpression>],
         out: &mut Vec<VerilogStatement>,
     ) -> Lowered<()> {
-        refuse_strobe(name, arguments)?;
-        let arguments = self.shown(at, arguments, out)?;
+        refuse_monitor(name, arguments)?;
+        let arguments = self.shown(in_task(at, name), token, arguments_of(name, arguments), out)?;
         let name = copied(self.alloc, name)?;
         add(
             out,
@@ -352,18 +384,28 @@ impl<'r, 't> Expansion<'r, 't> {
         )
     }
 
-    /// The arguments of a system task.
+    /// The arguments of a system task at a token.
     #[cycle(expansion)]
     fn shown(
         &mut self,
         at: StatementSpot,
+        token: usize,
         arguments: &[Option<VerilogExpression>],
         out: &mut Vec<VerilogStatement>,
     ) -> Lowered<Vec<Option<VerilogExpression>>> {
         let mut made = Vec::new(self.alloc);
+        let mut times = Vec::new(self.alloc);
         for argument in arguments {
+            let is_time = times.pop();
+            if is_time.is_none() {
+                times = self.times_behind(token, argument)?;
+            }
             let next = self.argument(at, argument, out)?;
-            made.push(next)?;
+            if is_time == Some(true) {
+                made.push(self.shown_time(token, next)?)?;
+            } else {
+                made.push(next)?;
+            }
         }
         Ok(made)
     }

@@ -1,6 +1,6 @@
 //! The nodes of the core's trees, with what each stands for.
 
-ghost use Rattle.std.specs.Prelude.{◌≡◌, string_bytes, IfOk};
+ghost use Rattle.std.specs.Prelude.{◌≡◌, [], ◌∷◌, Ok, string_bytes, IfOk};
 ghost use Rattle.model.specs.SourceTrees.{source_expression_of, source_statement_of, source_statements};
 ghost use Rattle.statement_forms.specs.Views.{core_statements, core_triggers};
 ghost use Rattle.model.specs.Syntax as tree;
@@ -10,6 +10,35 @@ use model::tree::{
     BinaryOperator, EventExpression, SourceExpression, SourceStatement, UnaryOperator,
 };
 use std::alloc::{AllocError, Global};
+
+/// Something that is kept while something else is made, with that. Fails where that did.
+pub(crate) fn beside<T: Drop, U>(kept: T, made: Result<U, AllocError>) -> Result<(T, U), AllocError>
+    ensures { IfOk result (λ both. (both.0 ≡ kept) × (made ≡ Ok both.1)) }
+{
+    match made {
+        Ok(other) => Ok((kept, other)),
+        Err(refused) => Err(refused),
+    }
+}
+
+/// Two values, each in a box. Fails where memory is refused.
+fn boxes<T: Drop>(alloc: Global, left: T, right: T) -> Result<(Box<T>, Box<T>), AllocError>
+    ensures { IfOk result (λ both. (both.0.value ≡ left) × (both.1.value ≡ right)) }
+{
+    let left = Box::new(alloc, left)?;
+    let right = Box::new(alloc, right)?;
+    Ok((left, right))
+}
+
+/// A vector of two values. Fails where memory is refused.
+pub(crate) fn pair<T: Drop>(alloc: Global, first: T, second: T) -> Result<Vec<T>, AllocError>
+    ensures { IfOk result (λ made. made.items ≡ first ∷ second ∷ []) }
+{
+    let mut made = Vec::new(alloc);
+    made.push(first)?;
+    made.push(second)?;
+    Ok(made)
+}
 
 /// What a name stands for. Fails where memory is refused.
 pub(crate) fn name_of(alloc: Global, name: &str) -> Result<SourceExpression, AllocError>
@@ -46,7 +75,8 @@ pub(crate) fn binary_of(
     ensures { IfOk result
         (λ made. source_expression_of made ≡ tree.Binary op (source_expression_of left) (source_expression_of right)) }
 {
-    Ok(SourceExpression::Binary(op, Box::new(alloc, left)?, Box::new(alloc, right)?))
+    let (left, right) = boxes(alloc, left, right)?;
+    Ok(SourceExpression::Binary(op, left, right))
 }
 
 /// Statements one after another.

@@ -6,7 +6,7 @@ ghost use Rattle.model.specs.Syntax as syntax;
 ghost use Rattle.statement_forms.specs.Views.{core_expressions, core_statements};
 ghost use Rattle.statement_forms.specs.Forms as spec;
 
-use crate::build::{assign_of, binary_of, block_of, if_else_of, name_of};
+use crate::build::{assign_of, beside, binary_of, block_of, if_else_of, name_of};
 use model::tree::{BinaryOperator, SourceExpression, SourceStatement};
 use std::alloc::{AllocError, Global};
 
@@ -56,12 +56,8 @@ fn fits_of(
 ) -> Result<SourceExpression, AllocError>
     ensures { IfOk result (λ made. source_expression_of made ≡ spec.fits hidden.now (source_expression_of label)) }
 {
-    binary_of(
-        alloc,
-        BinaryOperator::CaseEqual,
-        name_of(alloc, hidden)?,
-        label,
-    )
+    let (label, name) = beside(label, name_of(alloc, hidden))?;
+    binary_of(alloc, BinaryOperator::CaseEqual, name, label)
 }
 
 /// One condition or another, if there is another. Fails where memory is refused.
@@ -87,7 +83,7 @@ fn fits_or(
 ) -> Result<Option<SourceExpression>, AllocError>
     ensures { IfOk result (λ made. option_map source_expression_of made ≡ spec.any_fits hidden.now (source_expression_of label ∷ []) (option_map source_expression_of behind)) }
 {
-    let here = fits_of(alloc, hidden, label)?;
+    let (behind, here) = beside(behind, fits_of(alloc, hidden, label))?;
     Ok(Some(or_also(alloc, here, behind)?))
 }
 
@@ -119,8 +115,10 @@ pub fn case_of(
 ) -> Result<SourceStatement, AllocError>
     ensures { IfOk result (λ made. source_statement_of made ≡ spec.case_of hidden.now (source_expression_of selector) (map spec.branch_of branches.items) (core_statements otherwise)) }
 {
-    let start = assign_of(String::from_str(alloc, hidden)?, None, selector);
-    let mut made = choice_of(alloc, branches, otherwise)?;
+    let (selector, name) = beside(selector, String::from_str(alloc, hidden))?;
+    let taken = assign_of(name, None, selector);
+    let (start, chosen) = beside(taken, choice_of(alloc, branches, otherwise))?;
+    let mut made = chosen;
     made.insert(0, start)?;
     Ok(block_of(made))
 }

@@ -4,7 +4,7 @@ ghost use Rattle.std.specs.Prelude.{◌≡◌, IfOk};
 ghost use Rattle.model.specs.SourceTrees.{source_statement_of};
 ghost use Rattle.statement_forms.specs.Forms as spec;
 
-use crate::build::{assign_of, binary_of, name_of};
+use crate::build::{assign_of, beside, binary_of, name_of};
 use crate::loops::nought;
 use model::tree::{BinaryOperator, SourceStatement};
 use std::alloc::{AllocError, Global};
@@ -19,5 +19,6 @@ pub fn happens_of(alloc: Global, event: &str) -> Result<SourceStatement, AllocEr
         name_of(alloc, event)?,
         nought(),
     )?;
-    Ok(assign_of(String::from_str(alloc, event)?, None, is_nought))
+    let (changed, name) = beside(is_nought, String::from_str(alloc, event))?;
+    Ok(assign_of(name, None, changed))
 }

@@ -7,7 +7,7 @@ ghost use Rattle.statement_forms.specs.Views.{core_statements, core_triggers};
 ghost use Rattle.statement_forms.specs.Forms as spec;
 
 use crate::build::{
-    assign_of, await_of, binary_of, block_of, literal_of, name_of, unary_of, while_of,
+    assign_of, await_of, beside, binary_of, block_of, literal_of, name_of, pair, unary_of, while_of,
 };
 use logic4::bits::Bits;
 use logic4::digit::Digit;
@@ -39,19 +39,6 @@ fn alone(alloc: Global, s: SourceStatement) -> Result<Vec<SourceStatement>, Allo
     Ok(made)
 }
 
-/// A vector of two statements. Fails where memory is refused.
-fn pair(
-    alloc: Global,
-    first: SourceStatement,
-    second: SourceStatement,
-) -> Result<Vec<SourceStatement>, AllocError>
-    ensures { IfOk result (λ made. core_statements made ≡ source_statement_of first ∷ source_statement_of second ∷ []) }
-{
-    let mut made = alone(alloc, first)?;
-    made.push(second)?;
-    Ok(made)
-}
-
 /// `forever body` (9.6). Fails where memory is refused.
 pub fn forever_of(alloc: Global, body: SourceStatement) -> Result<SourceStatement, AllocError>
     ensures { IfOk result (λ made. source_statement_of made ≡ spec.forever (source_statement_of body)) }
@@ -69,7 +56,9 @@ pub fn for_of(
 ) -> Result<SourceStatement, AllocError>
     ensures { IfOk result (λ made. source_statement_of made ≡ spec.for_loop (source_statement_of start) (source_expression_of condition) (source_statement_of step) (source_statement_of body)) }
 {
-    let turns = while_of(condition, pair(alloc, body, step)?);
+    let (outer, turn) = beside((start, condition), pair(alloc, body, step))?;
+    let (start, condition) = outer;
+    let turns = while_of(condition, turn);
     Ok(block_of(pair(alloc, start, turns)?))
 }
 
@@ -83,7 +72,8 @@ fn less_one(alloc: Global, hidden: &str) -> Result<SourceStatement, AllocError>
         name_of(alloc, hidden)?,
         one(),
     )?;
-    Ok(assign_of(String::from_str(alloc, hidden)?, None, less))
+    let (rest, name) = beside(less, String::from_str(alloc, hidden))?;
+    Ok(assign_of(name, None, rest))
 }
 
 /// Whether a count in a variable is more than 0. Fails where memory is refused.
@@ -107,7 +97,8 @@ fn turns_of(
     ensures { IfOk result (λ made. source_statement_of made ≡ spec.while_true (syntax.Binary BinaryOperator.Greater (syntax.Register hidden.now) spec.nought)
         (syntax.Assign hidden.now None (syntax.Binary BinaryOperator.Subtract (syntax.Register hidden.now) spec.one) ∷ source_statement_of body ∷ [])) }
 {
-    let turn = pair(alloc, less_one(alloc, hidden)?, body)?;
+    let (body, less) = beside(body, less_one(alloc, hidden))?;
+    let turn = pair(alloc, less, body)?;
     Ok(while_of(is_left(alloc, hidden)?, turn))
 }
 
@@ -120,8 +111,10 @@ pub fn repeat_of(
 ) -> Result<SourceStatement, AllocError>
     ensures { IfOk result (λ made. source_statement_of made ≡ spec.repeat_loop hidden.now (source_expression_of count) (source_statement_of body)) }
 {
-    let start = assign_of(String::from_str(alloc, hidden)?, None, count);
-    let turns = turns_of(alloc, hidden, body)?;
+    let (given, name) = beside((count, body), String::from_str(alloc, hidden))?;
+    let (count, body) = given;
+    let taken = assign_of(name, None, count);
+    let (start, turns) = beside(taken, turns_of(alloc, hidden, body))?;
     Ok(block_of(pair(alloc, start, turns)?))
 }
 
@@ -153,7 +146,9 @@ pub fn wait_of(
 ) -> Result<SourceStatement, AllocError>
     ensures { IfOk result (λ made. source_statement_of made ≡ spec.wait_until (source_expression_of condition) (core_triggers changes) (source_statement_of body)) }
 {
-    let none = has_no_one(alloc, condition)?;
-    let wait = changes_once(alloc, changes)?;
-    Ok(block_of(pair(alloc, while_of(none, wait), body)?))
+    let (body, none) = beside(body, has_no_one(alloc, condition))?;
+    let (inner, wait) = beside((none, body), changes_once(alloc, changes))?;
+    let (none, body) = inner;
+    let waits = while_of(none, wait);
+    Ok(block_of(pair(alloc, waits, body)?))
 }

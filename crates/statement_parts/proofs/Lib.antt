@@ -2,3 +2,5 @@ pub mod Gathering
 pub mod Names
 pub mod Meant
 pub mod Nodes
+pub mod Clocks
+pub mod Tens

@@ -3,3 +3,5 @@ pub mod Surroundings
 pub mod Places
 pub mod Reads
 pub mod Parts
+pub mod Times
+pub mod Scales

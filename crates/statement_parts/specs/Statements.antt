@@ -1,5 +1,5 @@
 -- Statements as plain trees (IEEE 1364-2005, A.6), without the program's boxes and vectors.
-use Rattle.std.specs.Prelude.{ℕ, ◌||◌, IsTrue, List, [], ◌∷◌, map, Option, Some, None, codes}
+use Rattle.std.specs.Prelude.{ℕ, Bool, ◌||◌, IsTrue, List, [], ◌∷◌, map, Option, Some, None, codes}
 use Rattle.std.specs.Str.{bytes_eq}
 use Rattle.std.specs.Box.{box_value}
 use Rattle.std.specs.declared.boxed.Box.{Box}
@@ -205,3 +205,9 @@ otherwise_of (Some body) = Else (plain_of (box_value body))
 -- the system tasks that end a run (17.4)
 abbrev pub EndsRun : SourceText → Type 0
 EndsRun name = IsTrue (bytes_eq name (codes "$finish") || bytes_eq name (codes "$stop"))
+
+-- the system tasks that write waves (18.1)
+abbrev pub is_dump_task : SourceText → Bool
+is_dump_task name =
+    bytes_eq name (codes "$dumpfile") || bytes_eq name (codes "$dumpvars") || bytes_eq name (codes "$dumpon") || bytes_eq name (codes "$dumpoff") || bytes_eq name (codes "$dumpall")
+    || bytes_eq name (codes "$dumplimit") || bytes_eq name (codes "$dumpflush")

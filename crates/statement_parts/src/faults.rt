@@ -2,6 +2,7 @@
 
 ghost use Rattle.std.specs.Prelude.{◌≡◌, IsErr};
 
+use design_scopes::faults::{DesignFault, Wrong};
 use sizing::faults::{ExpressionFault, ExpressionFaultKind};
 use std::alloc::{AllocError, AllocFailed};
 
@@ -9,12 +10,18 @@ use std::alloc::{AllocError, AllocFailed};
 #[derive(Clone, Copy)]
 pub enum StatementKind {
     Expression(ExpressionFaultKind),
+    /// A constant function's call in a constant expression (10.4.5).
+    Constant(Wrong),
     /// What is assigned to isn't a variable by its name: a part of one, a concatenation, or something else.
     Target,
     /// An event that is no variable by its name, and no named event.
     Event,
     /// A delay that is no number, or less than 0.
     Delay,
+    /// A delay that is longer than one of a run may be, in ticks.
+    LongDelay,
+    /// The time in a module whose unit isn't the tick (19.8).
+    ScaledTime,
     /// No block of this name stands here.
     UnknownBlock,
     /// `fork` (9.8.2).
@@ -115,6 +122,18 @@ impl From<ExpressionFault> for StatementFault {
                 token,
                 kind: StatementKind::Expression(kind),
             },
+        }
+    }
+}
+
+impl From<DesignFault> for StatementFault {
+    fn from(found: DesignFault) -> StatementFault {
+        match found {
+            DesignFault::At { token, wrong } => StatementFault::At {
+                token,
+                kind: StatementKind::Constant(wrong),
+            },
+            _ => StatementFault::Memory,
         }
     }
 }

@@ -1,5 +1,5 @@
 -- The text of a value change dump of a whole design, with its scopes (IEEE 1364-2005, 18.2).
-use Rattle.std.specs.Prelude.{ℕ, zero, suc, ◌+◌, ◌&&◌, Bool, true, false, not, if◌then◌else◌, List, [], ◌∷◌, ◌++◌, Option, Some, None, get_or, codes}
+use Rattle.std.specs.Prelude.{ℕ, zero, suc, ◌+◌, ◌/◌, ◌%◌, ◌==◌, ◌&&◌, Bool, true, false, not, if◌then◌else◌, List, [], ◌∷◌, ◌++◌, Option, Some, None, get_or, codes}
 use Rattle.std.specs.List.{filter, flat_map, list_any}
 use Rattle.std.specs.Str.{bytes_eq}
 use Rattle.logic4.specs.Vector.{unknown}
@@ -86,12 +86,24 @@ change_lines standing c = new_time standing c.time ++ value_line c.register c.va
 abbrev pub shown_changes_text : List Text → List ValueChange → ℕ → List ℕ
 shown_changes_text names changes end = changes_text 0 (filter (is_change_shown names) changes) end
 
+-- a time as it is written: 1, 10 or 100 of a unit, by the power of ten femtoseconds (19.8)
+abbrev pub number_of_tick : ℕ → List ℕ
+number_of_tick power = if power % 3 == 0 then codes "1" else (if power % 3 == 1 then codes "10" else codes "100")
+
+abbrev pub unit_of_tick : ℕ → List ℕ
+unit_of_tick power =
+    if power / 3 == 0 then codes "fs" else (if power / 3 == 1 then codes "ps" else (if power / 3 == 2 then codes "ns" else (if power / 3 == 3 then codes "us" else (if power / 3 == 4 then codes "ms" else codes "s"))))
+
+-- the line of the unit of all times
+abbrev pub tick_line : ℕ → List ℕ
+tick_line power = codes "$timescale " ++ number_of_tick power ++ codes " " ++ unit_of_tick power ++ codes " $end\n"
+
 -- what stands before the first change
-abbrev pub scoped_header_text : List PlainScope → List Text → List ℕ → List ℕ
-scoped_header_text scopes names widths =
-    codes "$timescale 1 ns $end\n" ++ contents_text 1024 scopes names widths None
+abbrev pub scoped_header_text : ℕ → List PlainScope → List Text → List ℕ → List ℕ
+scoped_header_text tick scopes names widths =
+    tick_line tick ++ contents_text 1024 scopes names widths None
     ++ codes "$enddefinitions $end\n#0\n$dumpvars\n" ++ unknown_shown_text 0 names widths ++ codes "$end\n"
 
--- the whole text, by the scopes, the names and widths of the registers, the changes, and the time of the end
-abbrev pub scoped_text : List PlainScope → List Text → List ℕ → List ValueChange → ℕ → List ℕ
-scoped_text scopes names widths changes end = scoped_header_text scopes names widths ++ shown_changes_text names changes end
+-- the whole text, by the unit of all times, the scopes, the names and widths of the registers, the changes, and the time of the end
+abbrev pub scoped_text : ℕ → List PlainScope → List Text → List ℕ → List ValueChange → ℕ → List ℕ
+scoped_text tick scopes names widths changes end = scoped_header_text tick scopes names widths ++ shown_changes_text names changes end

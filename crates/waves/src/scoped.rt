@@ -5,7 +5,7 @@ ghost use Rattle.std.specs.List.{list_any};
 ghost use Rattle.std.specs.Str.{bytes_eq};
 ghost use Rattle.waves.specs.Dump.{register_line};
 ghost use Rattle.waves.specs.FullNames.{AreHomes, is_shown_name};
-ghost use Rattle.waves.specs.ScopedDump.{change_lines, contents_text, plain_scope, register_within, registers_within, scope_line, scope_lines, scope_within, scope_word, scoped_header_text, scoped_text, scopes_text, shown_changes_text, stands_in, unknown_shown, unknown_shown_text};
+ghost use Rattle.waves.specs.ScopedDump.{change_lines, contents_text, plain_scope, register_within, registers_within, scope_line, scope_lines, scope_within, scope_word, scoped_header_text, scoped_text, scopes_text, shown_changes_text, number_of_tick, stands_in, tick_line, unit_of_tick, unknown_shown, unknown_shown_text};
 
 use crate::full_names::{is_shown, own_name, scope_of};
 use crate::lines::{push_named, push_new_time, push_value};
@@ -301,16 +301,53 @@ fn push_shown_changes(
     push_new_time(text, standing, end)
 }
 
+/// How many of its unit a time is, by the power of ten femtoseconds.
+fn number_of_tick(power: u8) -> &'static [u8]
+    ensures { result.now ≡ number_of_tick power }
+{
+    match power % 3 {
+        0 => b"1",
+        1 => b"10",
+        _ => b"100",
+    }
+}
+
+/// The unit of a time, by the power of ten femtoseconds.
+fn unit_of_tick(power: u8) -> &'static [u8]
+    ensures { result.now ≡ unit_of_tick power }
+{
+    match power / 3 {
+        0 => b"fs",
+        1 => b"ps",
+        2 => b"ns",
+        3 => b"us",
+        4 => b"ms",
+        _ => b"s",
+    }
+}
+
+/// Puts the line of the unit of all times behind a text.
+fn push_tick(text: &mut Vec<u8>, power: u8) -> Result<(), AllocError>
+    ensures { OnOk result (text.new.items ≡ text.old.items ++ tick_line power) }
+{
+    text.extend_from_slice(b"$timescale ")?;
+    text.extend_from_slice(number_of_tick(power))?;
+    text.extend_from_slice(b" ")?;
+    text.extend_from_slice(unit_of_tick(power))?;
+    text.extend_from_slice(b" $end\n")
+}
+
 /// Puts what stands before the first change behind a text.
 fn push_scoped_header(
     alloc: Global,
     text: &mut Vec<u8>,
+    tick: u8,
     all: &DesignInScopes<'_, '_, '_, '_>,
 ) -> Result<(), AllocError>
     requires { AreHomes all.now.design.now.names all.now.homes.now }
-    ensures { OnOk result (text.new.items ≡ text.old.items ++ scoped_header_text (map plain_scope all.now.scopes.now) all.now.design.now.names all.now.design.now.widths) }
+    ensures { OnOk result (text.new.items ≡ text.old.items ++ scoped_header_text tick (map plain_scope all.now.scopes.now) all.now.design.now.names all.now.design.now.widths) }
 {
-    text.extend_from_slice(b"$timescale 1 ns $end\n")?;
+    push_tick(text, tick)?;
     push_contents(text, all, None, MOST_DEEP)?;
     text.extend_from_slice(b"$enddefinitions $end\n#0\n$dumpvars\n")?;
     push_unknown(alloc, text, all.design)?;
@@ -318,14 +355,16 @@ fn push_scoped_header(
 }
 
 /// The text of a wave of a whole design, with a scope for each of the design's, in which its registers stand by their own names. As
-/// `value_change_dump`, but that registers which no text declares aren't shown. Fails where memory is refused.
+/// `value_change_dump`, but that registers which no text declares aren't shown, and that the unit of all times is told: a femtosecond,
+/// multiplied by ten so often. Fails where memory is refused.
 pub fn scoped_dump(
     alloc: Global,
+    tick: u8,
     scopes: &[ShownScope<'_>],
     design: &Design,
     wave: &Wave,
 ) -> Result<Vec<u8>, AllocError>
-    ensures { IfOk result (λ text. text.items ≡ scoped_text (map plain_scope scopes.now) design.now.names design.now.widths wave.now.changes.items wave.now.end) }
+    ensures { IfOk result (λ text. text.items ≡ scoped_text tick (map plain_scope scopes.now) design.now.names design.now.widths wave.now.changes.items wave.now.end) }
 {
     let homes = homes_of(alloc, design)?;
     let all = DesignInScopes {
@@ -334,7 +373,7 @@ pub fn scoped_dump(
         homes: homes.as_slice(),
     };
     let mut text = Vec::new(alloc);
-    push_scoped_header(alloc, &mut text, &all)?;
+    push_scoped_header(alloc, &mut text, tick, &all)?;
     let changes = wave.changes.as_slice();
     push_shown_changes(alloc, &mut text, design, changes, wave.end)?;
     Ok(text)

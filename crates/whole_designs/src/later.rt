@@ -5,7 +5,7 @@ ghost use Rattle.whole_designs.specs.Refusals.{AreAtTokens, later_fault};
 
 use crate::later_statements::{add_block_items, add_parameters, add_statement, add_variables};
 use design_faults::refused::{LaterForm, PlacedFault, WholeFault, at_token};
-use hierarchy::later::{MAX_LATER, later_constructs};
+use hierarchy::later::{Later, MAX_LATER, later_constructs};
 use lexemes::token::VerilogToken;
 use std::alloc::{AllocError, Global};
 use syntax_tree::modules::{GenerateBlock, ModuleDeclaration, ModuleItem};
@@ -17,75 +17,99 @@ pub(crate) struct LaterPlace {
     pub(crate) fault: WholeFault,
 }
 
-/// Constructs that aren't supported yet.
+/// Constructs that aren't supported yet, as far as there was memory for them.
 #[derive(Drop)]
 pub(crate) struct LaterPlaces {
-    pub(crate) places: Vec<LaterPlace>,
+    places: Vec<LaterPlace>,
+    /// Whether memory was refused. Then nothing of this is told.
+    lacks_memory: bool,
 }
 
 impl LaterPlaces {
     /// Adds what is wrong at a token, unless as much is found already as is told.
-    fn add_fault(&mut self, token: usize, fault: WholeFault) -> Result<(), AllocError> {
-        if self.places.len() < MAX_LATER {
-            self.places.push(LaterPlace { token, fault })?;
+    fn add_fault(&mut self, token: usize, fault: WholeFault) {
+        if self.places.len() < MAX_LATER && self.places.push(LaterPlace { token, fault }).is_err() {
+            self.lacks_memory = true;
         }
-        Ok(())
     }
 
     /// Adds a form that isn't supported yet.
-    pub(crate) fn add(&mut self, token: usize, form: LaterForm) -> Result<(), AllocError> {
-        self.add_fault(token, WholeFault::LaterForm(form))
+    pub(crate) fn add(&mut self, token: usize, form: LaterForm) {
+        self.add_fault(token, WholeFault::LaterForm(form));
     }
 
     /// Adds a statement whose last branch stands too deep in others.
-    pub(crate) fn add_deep(&mut self, token: usize) -> Result<(), AllocError> {
-        self.add_fault(token, WholeFault::DeepBranches)
+    pub(crate) fn add_deep(&mut self, token: usize) {
+        self.add_fault(token, WholeFault::DeepBranches);
+    }
+
+    /// Adds constructs, however many there are. Fails where memory is refused, now or before.
+    fn add_constructs(&mut self, constructs: &[Later]) -> Result<(), AllocError> {
+        for later in constructs {
+            self.places.push(LaterPlace {
+                token: later.token,
+                fault: WholeFault::LaterConstruct(later.construct),
+            })?;
+        }
+        if self.lacks_memory {
+            return Err(AllocError);
+        }
+        Ok(())
     }
 }
 
 /// Adds what an item has.
 #[cycle(later_items)]
-fn add_item(found: &mut LaterPlaces, item: &ModuleItem) -> Result<(), AllocError> {
+fn add_item(found: &mut LaterPlaces, item: &ModuleItem) {
     match item {
         ModuleItem::Variable(source) => add_variables(found, source),
         ModuleItem::Parameter(source) => add_parameters(found, source),
         ModuleItem::Process(source) => add_statement(found, &source.body, 0),
         ModuleItem::Function(source) => {
-            add_block_items(found, source.items.as_slice())?;
-            add_statement(found, &source.body, 0)
+            add_block_items(found, source.items.as_slice());
+            add_statement(found, &source.body, 0);
         }
         ModuleItem::Task(source) => {
-            add_block_items(found, source.items.as_slice())?;
-            add_statement(found, &source.body, 0)
+            add_block_items(found, source.items.as_slice());
+            add_statement(found, &source.body, 0);
         }
         ModuleItem::GenerateLoop(inner) => add_block(found, &inner.body),
         ModuleItem::GenerateIf(inner) => {
             for branch in &inner.branches {
-                add_block(found, &branch.body)?;
+                add_block(found, &branch.body);
             }
-            match &inner.otherwise {
-                Some(block) => add_block(found, block),
-                None => Ok(()),
+            if let Some(block) = &inner.otherwise {
+                add_block(found, block);
             }
         }
         ModuleItem::GenerateCase(inner) => {
             for one in &inner.items {
-                add_block(found, &one.body)?;
+                add_block(found, &one.body);
             }
-            Ok(())
         }
         ModuleItem::GenerateBlock(block) => add_block(found, block),
-        _ => Ok(()),
+        _ => {}
     }
 }
 
 /// Adds what a generate block has.
 #[cycle(later_items)]
-fn add_block(found: &mut LaterPlaces, block: &GenerateBlock) -> Result<(), AllocError> {
+fn add_block(found: &mut LaterPlaces, block: &GenerateBlock) {
     for item in &block.items {
-        add_item(found, item)?;
+        add_item(found, item);
     }
-    Ok(())
+}
+
+/// Adds what modules have.
+fn add_modules(found: &mut LaterPlaces, modules: &[ModuleDeclaration]) {
+    for module in modules {
+        for source in &module.parameters {
+            add_parameters(found, source);
+        }
+        for item in &module.items {
+            add_item(found, item);
+        }
+    }
 }
 
 /// Those of some places that are told: a hundred at most.
@@ -120,24 +144,13 @@ pub(crate) fn later_faults(
 ) -> Result<Vec<PlacedFault>, AllocError>
     ensures { IfOk result (λ faults. AreAtTokens tokens.now faults.items) }
 {
+    let constructs = later_constructs(alloc, modules)?;
     let mut found = LaterPlaces {
         places: Vec::new(alloc),
+        lacks_memory: false,
     };
-    for module in modules {
-        for source in &module.parameters {
-            add_parameters(&mut found, source)?;
-        }
-        for item in &module.items {
-            add_item(&mut found, item)?;
-        }
-    }
-    for later in &later_constructs(alloc, modules)? {
-        found.places.push(LaterPlace {
-            token: later.token,
-            fault: WholeFault::LaterConstruct(later.construct),
-        })?;
-    }
-    let LaterPlaces { mut places } = found;
-    places.sort_by_key(|place| place.token)?;
-    faults_at(alloc, tokens, told_places(places.as_slice()))
+    add_modules(&mut found, modules);
+    found.add_constructs(constructs.as_slice())?;
+    found.places.sort_by_key(|place| place.token)?;
+    faults_at(alloc, tokens, told_places(found.places.as_slice()))
 }

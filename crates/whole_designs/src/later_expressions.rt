@@ -2,8 +2,7 @@
 
 use crate::later::LaterPlaces;
 use design_faults::refused::LaterForm;
-use routine_texts::calls::first_call;
-use std::alloc::AllocError;
+use statement_parts::times::is_time_function;
 use syntax_tree::expressions::{VerilogBinaryOperator, VerilogExpression};
 
 /// Whether an operator is one of those that aren't supported yet.
@@ -20,15 +19,12 @@ fn is_later(operator: VerilogBinaryOperator) -> bool {
 
 /// Whether a system function is one that this language has.
 fn is_known_function(name: &[u8]) -> bool {
-    name == b"$signed".as_slice() || name == b"$unsigned".as_slice()
+    name == b"$signed".as_slice() || name == b"$unsigned".as_slice() || is_time_function(name)
 }
 
 /// Adds what an expression has.
 #[cycle(later_expression)]
-pub(crate) fn add_expression(
-    found: &mut LaterPlaces,
-    e: &VerilogExpression,
-) -> Result<(), AllocError> {
+pub(crate) fn add_expression(found: &mut LaterPlaces, e: &VerilogExpression) {
     match e {
         VerilogExpression::Real { token, .. } => found.add(*token, LaterForm::Real),
         VerilogExpression::Number {
@@ -38,9 +34,8 @@ pub(crate) fn add_expression(
             ..
         } => {
             if *cut && !*sized {
-                found.add(*token, LaterForm::LongNumber)?;
+                found.add(*token, LaterForm::LongNumber);
             }
-            Ok(())
         }
         VerilogExpression::Call { arguments, .. } => add_expressions(found, arguments.as_slice()),
         VerilogExpression::SystemCall {
@@ -48,14 +43,15 @@ pub(crate) fn add_expression(
             name,
             arguments,
         } => {
-            if !is_known_function(name.as_slice()) {
-                return found.add(*token, LaterForm::SystemFunction);
+            if is_known_function(name.as_slice()) {
+                add_expressions(found, arguments.as_slice());
+            } else {
+                found.add(*token, LaterForm::SystemFunction);
             }
-            add_expressions(found, arguments.as_slice())
         }
         VerilogExpression::Index { base, index, .. } => {
-            add_expression(found, base)?;
-            add_expression(found, index)
+            add_expression(found, base);
+            add_expression(found, index);
         }
         VerilogExpression::Part {
             base,
@@ -63,14 +59,14 @@ pub(crate) fn add_expression(
             second,
             ..
         } => {
-            add_expression(found, base)?;
-            add_expression(found, first)?;
-            add_expression(found, second)
+            add_expression(found, base);
+            add_expression(found, first);
+            add_expression(found, second);
         }
         VerilogExpression::Concatenation { parts, .. } => add_expressions(found, parts.as_slice()),
         VerilogExpression::Replication { count, parts, .. } => {
-            add_expression(found, count)?;
-            add_expressions(found, parts.as_slice())
+            add_expression(found, count);
+            add_expressions(found, parts.as_slice());
         }
         VerilogExpression::Unary { operand, .. } => add_expression(found, operand),
         VerilogExpression::Binary {
@@ -80,10 +76,10 @@ pub(crate) fn add_expression(
             right,
         } => {
             if is_later(*operator) {
-                found.add(*token, LaterForm::Arithmetic)?;
+                found.add(*token, LaterForm::Arithmetic);
             }
-            add_expression(found, left)?;
-            add_expression(found, right)
+            add_expression(found, left);
+            add_expression(found, right);
         }
         VerilogExpression::Conditional {
             condition,
@@ -91,33 +87,18 @@ pub(crate) fn add_expression(
             second,
             ..
         } => {
-            add_expression(found, condition)?;
-            add_expression(found, first)?;
-            add_expression(found, second)
+            add_expression(found, condition);
+            add_expression(found, first);
+            add_expression(found, second);
         }
-        _ => Ok(()),
+        _ => {}
     }
 }
 
 /// Adds what expressions have.
 #[cycle(later_expression)]
-pub(crate) fn add_expressions(
-    found: &mut LaterPlaces,
-    all: &[VerilogExpression],
-) -> Result<(), AllocError> {
+pub(crate) fn add_expressions(found: &mut LaterPlaces, all: &[VerilogExpression]) {
     for e in all {
-        add_expression(found, e)?;
+        add_expression(found, e);
     }
-    Ok(())
-}
-
-/// Adds what a constant expression has, with the first call of a function in it (10.4.5).
-pub(crate) fn add_constant(
-    found: &mut LaterPlaces,
-    e: &VerilogExpression,
-) -> Result<(), AllocError> {
-    if let Some(token) = first_call(e) {
-        found.add(token, LaterForm::ConstantCall)?;
-    }
-    add_expression(found, e)
 }

@@ -4,7 +4,7 @@
 //! 2. `later` and its parts name what this language lacks still, wherever it stands.
 //! 3. `whole` goes from the files to the module: tokens (`preprocess`), modules (`syntax`), scopes (`hierarchy`), statements
 //!    (`lowering`).
-//! 4. `line_index` finds lines, and `process_places` says where each process of the module stands.
+//! 4. `timescales` finds the scales of modules, `line_index` finds lines, and `process_places` says where each process of the module stands.
 //!
 //! The layer above uses `whole_design`, whose clauses say what module it makes and where its faults stand; they are those of
 //! `design_faults`.
@@ -17,4 +17,5 @@ mod later_expressions;
 mod later_statements;
 mod line_index;
 mod process_places;
+mod timescales;
 pub mod whole;

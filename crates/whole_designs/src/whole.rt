@@ -16,6 +16,7 @@ use crate::asked::{AskedDesign, GivenParameter};
 use crate::given::top_parameters;
 use crate::later::later_faults;
 use crate::process_places::process_places;
+use crate::timescales::{FoundScales, ModuleScales, NANOSECOND, module_scales};
 use design_faults::refused::{
     DesignRefusal, FoundFaults, PlacedFault, WholeFault, WholeRefusal, alone, at_token, of_design,
     unplaced,
@@ -33,9 +34,10 @@ use preprocess::includes::KnownFile;
 use preprocess::preprocess::{Preprocessed, TextRefusal, preprocess};
 use routines::processes::{PlainDesign, plain_processes};
 use scopes::tree::ScopeTree;
-use source_texts::settings::{LineMark, ModuleSetting, SettingChange, TimeUnit};
+use source_texts::settings::{LineMark, SettingChange};
 use statement_parts::faults::StatementFault;
 use statement_parts::plain::PlainProcess;
+use statement_parts::scales::ModuleScale;
 use std::alloc::{AllocError, Global};
 use syntax::parser::{SourceParseFault, SyntaxFault, TextFaults, parse};
 use syntax_tree::modules::ModuleDeclaration;
@@ -47,13 +49,29 @@ pub struct DesignScope {
     pub is_instance: bool,
 }
 
-/// The flat module of the files of a design, where each of its processes stands, and the design's scopes, each behind the one
-/// around it.
+/// The scopes of a design, each behind the one around it, and the unit of all times: a femtosecond, multiplied by ten so often.
+#[derive(Drop)]
+pub struct DesignScopes {
+    pub scopes: Vec<DesignScope>,
+    pub tick: u8,
+}
+
+impl DesignScopes {
+    /// No scopes.
+    pub fn none(alloc: Global) -> DesignScopes {
+        DesignScopes {
+            scopes: Vec::new(alloc),
+            tick: NANOSECOND,
+        }
+    }
+}
+
+/// The flat module of the files of a design, where each of its processes stands, and the design's scopes.
 #[derive(Drop)]
 pub struct WholeDesign {
     pub module: Module,
     pub processes: Vec<ProcessLocation>,
-    pub scopes: Vec<DesignScope>,
+    pub scopes: DesignScopes,
 }
 
 /// Tokens, with what tells their places and their settings.
@@ -181,6 +199,30 @@ fn refuse_later(
     }
 }
 
+/// The token of the first module whose name one before it has, by the names of those before, if there is one.
+fn token_of_second<'m>(
+    names: &mut IndexSet<&'m [u8]>,
+    modules: &'m [ModuleDeclaration],
+) -> Result<Option<usize>, AllocError> {
+    for module in modules {
+        if !names.insert(module.identifier.name.as_slice())? {
+            return Ok(Some(module.identifier.token));
+        }
+    }
+    Ok(None)
+}
+
+/// The token of the first second module of a name, if there is one. Fails where memory is refused.
+fn second_module(
+    alloc: Global,
+    modules: &[ModuleDeclaration],
+) -> Result<Option<usize>, AllocError> {
+    let mut names = IndexSet::new(alloc);
+    let found = token_of_second(&mut names, modules);
+    drop(names);
+    found
+}
+
 /// Refuses second modules of a name.
 #[tactic(auto, using(crate::proofs::PlacedFaults::found_at))]
 fn refuse_twice(
@@ -191,58 +233,29 @@ fn refuse_twice(
     requires stand { list_all (token_stands text.files.now) text.tokens.now ≡ true }
     ensures refused { IfErr result (AreFoundIn text.entry.files.now) }
 {
-    let mut names = IndexSet::new(alloc);
-    for module in modules {
-        let identifier = &module.identifier;
-        if !names.insert(identifier.name.as_slice())? {
-            let fault = at_token(text.tokens, identifier.token, WholeFault::ModuleTwice);
-            return Err(alone(alloc, fault));
-        }
-    }
-    Ok(())
-}
-
-/// A unit of time, where a setting says one; and whether it says anything of it.
-fn unit_of(setting: ModuleSetting) -> Option<Option<TimeUnit>> {
-    match setting {
-        ModuleSetting::Timescale { unit, .. } => Some(Some(unit)),
-        ModuleSetting::Reset => Some(None),
-        _ => None,
+    match second_module(alloc, modules)? {
+        None => Ok(()),
+        Some(token) => Err(alone(alloc, at_token(text.tokens, token, WholeFault::ModuleTwice))),
     }
 }
 
-/// The unit of time of the module that begins behind so many tokens, by the settings before it (19.8).
-fn unit_at(settings: &[SettingChange], token: usize) -> Option<TimeUnit> {
-    let mut unit = None;
-    for change in settings {
-        if change.tokens_before <= token {
-            unit = unit_of(change.setting).unwrap_or(unit);
-        }
-    }
-    unit
-}
-
-/// Refuses modules with different units of time.
+/// The scales of time of a design's modules, and the tick.
 #[tactic(auto, using(crate::proofs::PlacedFaults::found_at))]
-fn refuse_timescales(
+fn scales_of(
     alloc: Global,
     text: DesignText<'_>,
     modules: &[ModuleDeclaration],
-) -> Result<(), FoundFaults>
+) -> Result<ModuleScales, FoundFaults>
     requires stand { list_all (token_stands text.files.now) text.tokens.now ≡ true }
     ensures refused { IfErr result (AreFoundIn text.entry.files.now) }
 {
-    let Some(first) = modules.first() else {
-        return Ok(());
-    };
-    let unit = unit_at(text.settings, first.token);
-    for module in modules {
-        if unit_at(text.settings, module.token) != unit {
-            let fault = at_token(text.tokens, module.token, WholeFault::Timescales);
-            return Err(alone(alloc, fault));
+    match module_scales(alloc, text.settings, text.tokens, modules)? {
+        FoundScales::Known(scales) => Ok(scales),
+        FoundScales::Unlike(token) => {
+            let fault = at_token(text.tokens, token, WholeFault::Timescales);
+            Err(alone(alloc, fault))
         }
     }
-    Ok(())
 }
 
 /// Why modules make no scopes, by whether the top one is asked for by its name.
@@ -326,13 +339,14 @@ fn plain_of(
     alloc: Global,
     text: DesignText<'_>,
     modules: &[ModuleDeclaration],
+    scales: &[ModuleScale],
     design: ScopedDesign,
 ) -> Result<PlainDesign, FoundFaults>
     requires stand { list_all (token_stands text.files.now) text.tokens.now ≡ true }
     ensures plain { IfOk result IsOfModules }
     ensures refused { IfErr result (AreFoundIn text.entry.files.now) }
 {
-    match plain_processes(alloc, modules, design) {
+    match plain_processes(alloc, modules, scales, design) {
         Ok(made) => Ok(made),
         Err(fault) => Err(of_statement(alloc, text, fault)),
     }
@@ -354,13 +368,14 @@ fn scopes_of(alloc: Global, tree: &ScopeTree) -> Result<Vec<DesignScope>, AllocE
 #[derive(Drop)]
 struct ToldDesign {
     processes: Vec<ProcessLocation>,
-    scopes: Vec<DesignScope>,
+    scopes: DesignScopes,
 }
 
 /// What is told of a design, with the processes of its flat module. Fails where memory is refused.
 fn told_of(
     alloc: Global,
     text: DesignText<'_>,
+    tick: u8,
     design: &ScopedDesign,
     processes: &[SourceProcess],
 ) -> Result<ToldDesign, AllocError>
@@ -376,6 +391,7 @@ fn told_of(
         processes,
     )?;
     let scopes = scopes_of(alloc, &design.tree)?;
+    let scopes = DesignScopes { scopes, tick };
     Ok(ToldDesign { processes, scopes })
 }
 
@@ -384,6 +400,7 @@ fn told_of(
 fn whole_of(
     alloc: Global,
     text: DesignText<'_>,
+    tick: u8,
     plain: &PlainDesign,
 ) -> Result<WholeDesign, FoundFaults>
     requires stand { list_all (token_stands text.files.now) text.tokens.now ≡ true }
@@ -394,7 +411,7 @@ fn whole_of(
     let sources = plain.processes.as_slice();
     let module = flat_of(alloc, text, sources, &plain.design)?;
     let processes = module.procs.as_slice();
-    match told_of(alloc, text, &plain.design, processes) {
+    match told_of(alloc, text, tick, &plain.design, processes) {
         Ok(told) => Ok(WholeDesign {
             module,
             processes: told.processes,
@@ -421,10 +438,10 @@ fn whole_of_modules(
     }
     refuse_later(alloc, text, modules)?;
     refuse_twice(alloc, text, modules)?;
-    refuse_timescales(alloc, text, modules)?;
+    let scales = scales_of(alloc, text, modules)?;
     let design = scoped_design(alloc, text, modules, asked)?;
-    let plain = plain_of(alloc, text, modules, design)?;
-    let made = whole_of(alloc, text, &plain);
+    let plain = plain_of(alloc, text, modules, scales.scales.as_slice(), design)?;
+    let made = whole_of(alloc, text, scales.tick, &plain);
     drop(plain);
     made
 }
@@ -468,7 +485,11 @@ fn unread(alloc: Global, refusal: TextRefusal) -> WholeRefusal
         wanted,
     } = refusal;
     match wanted {
-        Some(path) => WholeRefusal::Wants(path),
+        Some(path) => {
+            drop(files);
+            drop(lines);
+            WholeRefusal::Wants(path)
+        }
         None => refused(found_of_text(alloc, fault), files, lines),
     }
 }
@@ -479,7 +500,11 @@ fn refused(found: FoundFaults, files: Vec<SourceFile>, lines: Vec<LineMark>) -> 
     ensures { IsRefusalOf result }
 {
     match found {
-        FoundFaults::Memory => WholeRefusal::Memory,
+        FoundFaults::Memory => {
+            drop(files);
+            drop(lines);
+            WholeRefusal::Memory
+        }
         FoundFaults::Found(faults) => WholeRefusal::Refused(DesignRefusal {
             faults,
             files,

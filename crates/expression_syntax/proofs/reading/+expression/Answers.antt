@@ -18,7 +18,7 @@ parse_select-returns-in_ok-index_of-in-None t c =
     λ a is. step.index_is _ a _ _ _ _ _ _ _ _ _ _ is c.in_ok-token.ensures.0 c.in_ok-token.ensures.1 c.in_ok-token.ensures.2 c.open.ensures (c.in_ok-first.ensures.spelled (omega arith)) c.in_ok-expect-in-None.ensures.1 c.in_ok-expect-in-None.ensures.2 c.close.ensures c.in_ok-index_of-in-None.ensures
 
 pub parse_list-loop-part-init : goal.parse_list-loop-part-init
-parse_list-loop-part-init t c = λ a h. step.list_start _ _ _ _ c.new-found.ensures.items c.in_ok-push.ensures.items a _ h
+parse_list-loop-part-init t c = λ a h. step.list_start _ _ _ _ _ c.into_inner.ensures c.new-found.ensures.items c.in_ok-push.ensures.items a _ h
 
 pub parse_list-returns-then-not-accept : goal.parse_list-returns-then-not-accept
 parse_list-returns-then-not-accept t c =
@@ -26,7 +26,7 @@ parse_list-returns-then-not-accept t c =
 
 pub parse_list-loop-part-preserved : goal.parse_list-loop-part-preserved
 parse_list-loop-part-preserved t c =
-    λ a h. step.list_more _ _ _ _ a _ _ _ _ (c.loop-part.invariant a h) c.accept.ensures.seen c.if-not-accept.false c.accept.ensures.moved (c.in_ok-part.ensures.spelled (omega arith)) c.in_ok-push-2.ensures.items
+    λ a h. step.list_more _ _ _ _ _ a _ _ _ _ c.into_inner-in-loop-part.ensures (c.loop-part.invariant a h) c.accept.ensures.seen c.if-not-accept.false c.accept.ensures.moved (c.in_ok-part.ensures.spelled (omega arith)) c.in_ok-push-2.ensures.items
 
 pub parse_named-returns-then-not-sees : goal.parse_named-returns-then-not-sees
 parse_named-returns-then-not-sees t c = grammar.path c.in_ok-path.ensures c.in_ok-skip_attributes.ensures
@@ -37,11 +37,11 @@ parse_named-returns t c =
 
 pub parse_system_call-returns-then-not-sees : goal.parse_system_call-returns-then-not-sees
 parse_system_call-returns-then-not-sees t c =
-    step.system_bare_is _ _ _ _ _ _ _ c.requires c.take-token.ensures.token c.take-token.ensures.moved c.in_ok-name.ensures c.new.ensures.items c.system_call_of.ensures
+    step.system_bare_is _ _ _ _ _ _ _ c.requires c.take-token.ensures.token c.take-token.ensures.moved c.in_ok-name.ensures c.new.ensures.items c.in_ok-system_call_of.ensures
 
 pub parse_system_call-returns : goal.parse_system_call-returns
 parse_system_call-returns t c =
-    step.system_call_is _ _ _ _ _ _ _ _ c.requires c.take-token.ensures.token c.take-token.ensures.moved c.in_ok-name.ensures c.in_ok-arguments.ensures.0 c.in_ok-arguments.ensures.1 c.system_call_of-2.ensures
+    step.system_call_is _ _ _ _ _ _ _ _ c.requires c.take-token.ensures.token c.take-token.ensures.moved c.in_ok-name.ensures c.in_ok-arguments.ensures.0 c.in_ok-arguments.ensures.1 c.in_ok-system_call_of-2.ensures
 
 pub parse_replication-returns : goal.parse_replication-returns
 parse_replication-returns t c =
@@ -49,7 +49,7 @@ parse_replication-returns t c =
 
 pub parse_braces-returns : goal.parse_braces-returns
 parse_braces-returns t c =
-    step.concatenation_is _ _ _ _ _ _ _ _ _ _ c.in_ok-token.ensures.0 c.in_ok-token.ensures.1 c.in_ok-token.ensures.2 c.open.ensures (c.in_ok-first.ensures.spelled (omega arith)) c.in_ok-parts.ensures c.concatenation_of.ensures
+    step.concatenation_is _ _ _ _ _ _ _ _ _ _ c.in_ok-token.ensures.0 c.in_ok-token.ensures.1 c.in_ok-token.ensures.2 c.open.ensures (c.in_ok-first.ensures.spelled (omega arith)) c.in_ok-parts.ensures c.in_ok-concatenation_of.ensures
 
 pub parse_typical-returns : goal.parse_typical-returns
 parse_typical-returns t c =
@@ -61,11 +61,11 @@ parse_parenthesized-returns t c =
 
 pub parse_primary-returns-in-Braces : goal.parse_primary-returns-in-Braces
 parse_primary-returns-in-Braces t c =
-    step.ok_map (λ e. grammar.IsBraces c.args.source.now (plain_expression_of e) c.args.reader.now.place c.parse_braces.new.reader.place) _ _ (λ e is. grammar.braces is) c.parse_braces.ensures
+    step.ok_map (λ e. grammar.IsBraces c.args.source.now (plain_expression_of e.value) c.args.reader.now.place c.parse_braces.new.reader.place) _ _ (λ e is. grammar.braces is) c.parse_braces.ensures
 
 pub parse_operand-returns-in-None : goal.parse_operand-returns-in-None
 parse_operand-returns-in-None t c =
-    step.ok_map (λ e. grammar.IsPrimary c.args.source.now (plain_expression_of e) c.args.reader.now.place c.parse_primary.new.reader.place) _ _ (λ e is. grammar.bare is) c.parse_primary.ensures
+    step.ok_map (λ e. grammar.IsPrimary c.args.source.now (plain_expression_of e.value) c.args.reader.now.place c.parse_primary.new.reader.place) _ _ (λ e is. grammar.bare is) c.parse_primary.ensures
 
 pub parse_operand-returns-in_ok-unary_of-in-Some : goal.parse_operand-returns-in_ok-unary_of-in-Some
 parse_operand-returns-in_ok-unary_of-in-Some t c =
@@ -89,7 +89,7 @@ parse_operators-loop-turn-preserved t c =
 
 pub parse_conditional-returns : goal.parse_conditional-returns
 parse_conditional-returns t c =
-    λ a is. step.conditional_is _ a _ _ _ _ _ _ _ _ _ _ _ (subst (λ x. grammar.IsBinary c.args.source.now 1 (plain_expression_of c.args.condition) a x) (sym c.count_operator.ensures) is) c.in_ok-token.ensures.0 c.in_ok-token.ensures.1 c.in_ok-token.ensures.2 c.in_ok-skip_attributes.ensures (c.in_ok-first.ensures.spelled (omega arith)) c.in_ok-expect.ensures.1 c.in_ok-expect.ensures.2 (c.in_ok-second.ensures.spelled (omega arith)) c.in_ok-conditional_of.ensures
+    λ a is. step.conditional_is _ a _ _ _ _ _ _ _ _ _ _ _ (subst (λ x. grammar.IsBinary c.args.source.now 1 (plain_expression_of c.args.condition.value) a x) (sym c.count_operator.ensures) is) c.in_ok-token.ensures.0 c.in_ok-token.ensures.1 c.in_ok-token.ensures.2 c.in_ok-skip_attributes.ensures (c.in_ok-first.ensures.spelled (omega arith)) c.in_ok-expect.ensures.1 c.in_ok-expect.ensures.2 (c.in_ok-second.ensures.spelled (omega arith)) c.in_ok-conditional_of.ensures
 
 pub parse_expression-returns-clause-spelled : goal.parse_expression-returns-clause-spelled
 parse_expression-returns-clause-spelled t c =

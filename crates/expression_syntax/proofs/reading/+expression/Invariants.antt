@@ -58,15 +58,15 @@ decreases-parse_typical l = 20 * l.room + 16
 
 -- what is found is a path from the name on
 abbrev pub invariant-parse_path-loop-step : goal.invariant-parse_path-loop-step
-invariant-parse_path-loop-step l = grammar.IsPath l.source (plain_expression_of l.found) l.fn.reader.place l.reader.place
+invariant-parse_path-loop-step l = grammar.IsPath l.source (plain_expression_of l.found.value) l.fn.reader.place l.reader.place
 
 -- what is found stands with commas between, from where the first one began
 abbrev pub invariant-parse_list-loop-part : goal.invariant-parse_list-loop-part
 invariant-parse_list-loop-part l =
-    (a : ℕ) → grammar.IsExpression l.source (plain_expression_of l.fn.first) a l.fn.reader.place → grammar.AreSeparated l.source (plain_expressions_of l.found) a l.reader.place
+    (a : ℕ) → grammar.IsExpression l.source (plain_expression_of l.fn.first.value) a l.fn.reader.place → grammar.AreSeparated l.source (plain_expressions_of l.found) a l.reader.place
 
 -- what stands left of the next operator is of its level
 abbrev pub invariant-parse_operators-loop-turn : goal.invariant-parse_operators-loop-turn
 invariant-parse_operators-loop-turn l =
-    (a : ℕ) → grammar.IsUnary l.source (plain_expression_of l.fn.first) a l.fn.reader.place → l.level ≤ 12
-    → IsReady l.source l.level (plain_expression_of l.left) a l.reader.place
+    (a : ℕ) → grammar.IsUnary l.source (plain_expression_of l.fn.first.value) a l.fn.reader.place → l.level ≤ 12
+    → IsReady l.source l.level (plain_expression_of l.left.value) a l.reader.place

@@ -2,6 +2,7 @@ use Rattle.std.proofs.Common.{◌≡◌, [], List, Bor, map, sym, ap, ◌∙◌,
 use Rattle.std.specs.Prelude.{string_bytes, IfOk}
 use Rattle.std.specs.Box.{box_value}
 use Rattle.model.specs.Syntax.{Text}
+use Rattle.model.specs.declared.tree.SourceExpression.{SourceExpression}
 use Rattle.model.specs.SourceTrees.{source_expression_of, source_statement_of}
 use Rattle.syntax_tree.specs.Expressions.{plain_expression_of}
 use Rattle.syntax_tree.specs.declared.statements.BlockForm.{BlockForm}
@@ -12,7 +13,7 @@ use Rattle.syntax_tree.specs.declared.statements.VerilogStatement.{VerilogStatem
 use Rattle.syntax_tree.specs.declared.statements.VerilogStatement.TheViews.{the_lemmas}
 use Rattle.syntax_tree.specs.declared.statements.VariableAssignment.{VariableAssignment}
 use Rattle.syntax_tree.specs.declared.statements.CaseItem.{CaseItem}
-use Rattle.syntax_tree.specs.declared.statements.ConditionalBranch.{ConditionalBranch}
+use Rattle.syntax_tree.specs.declared.statements.ConditionalBranch.{ConditionalBranch, out-ConditionalBranch}
 use Rattle.design_scopes.specs.Places.{means, names_in_scope}
 use Rattle.design_scopes.specs.declared.scoped.ScopedDesign.{ScopedDesign}
 use Rattle.statement_forms.specs.Views.{core_statements}
@@ -24,7 +25,7 @@ use Rattle.statement_parts.specs.Places.{surroundings}
 use Rattle.lowering.specs.Hidden.{Makes, hidden_in}
 use Rattle.lowering.specs.Cases.{case_made}
 use Rattle.sizing.specs.Names.{Names}
-use Rattle.lowering.specs.Lowering.{TakesItemsIn, Lowers, LowersAll, LowersItems, IsDelayed, IsAwaited, IsWaitLoop, IsWhile, IsFor}
+use Rattle.lowering.specs.Lowering.{TakesItemsIn, Lowers, LowersAll, LowersItems, IsDelayed, IsAwaited, IsWaitLoop, IsWhile, IsFor, IsSelfLowered}
 use Rattle.lowering.proofs.Shapes.{case_items_in, item_taken_at}
 use Rattle.lowering.proofs.Variables.{makes_none}
 use Rattle.lowering.proofs.Parts.{stands_ok}
@@ -38,9 +39,9 @@ lower_statement-returns-in_ok-late-in-Delayed t c =
     let scope = c.args.around.scope in
     let a = c.in-Delayed in
     let old = hidden_in c.args.hidden.now in
-    let new = hidden_in c.lower_statement.new.hidden in
+    let new = hidden_in c.lower_in_box.new.hidden in
     let inside = a.body.value in
-    let t0 = source_statement_of c.in_ok-late-in-Delayed.late in
+    let t0 = source_statement_of c.in_ok-late-in-Delayed.late.value in
     let lowered : Makes old new (Lowers d scope (plain_of inside) t0) = subst (λ (s : VerilogStatement). Makes old new (Lowers d scope (plain_of s) t0)) c.deref.ensures c.in_ok-late-in-Delayed.ensures in
     let source = plain.Delayed a.token (plain_expression_of a.delay) (plain_of inside) in
     step_ok d old new scope (plain_of c.args.s.now) (IsDelayed d scope (plain_expression_of a.delay) t0) c.delayed.result
@@ -53,9 +54,9 @@ lower_statement-returns-in_ok-woken-in-Awaited t c =
     let scope = c.args.around.scope in
     let a = c.in-Awaited in
     let old = hidden_in c.args.hidden.now in
-    let new = hidden_in c.lower_statement-in-Awaited.new.hidden in
+    let new = hidden_in c.lower_in_box-in-Awaited.new.hidden in
     let inside = a.body.value in
-    let t0 = source_statement_of c.in_ok-woken-in-Awaited.woken in
+    let t0 = source_statement_of c.in_ok-woken-in-Awaited.woken.value in
     let lowered : Makes old new (Lowers d scope (plain_of inside) t0) = subst (λ (s : VerilogStatement). Makes old new (Lowers d scope (plain_of s) t0)) c.deref-in-Awaited.ensures c.in_ok-woken-in-Awaited.ensures in
     let source = plain.Awaited a.token (plain_control a.control) (plain_of inside) in
     step_ok d old new scope (plain_of c.args.s.now) (IsAwaited d scope (plain_control a.control) (plain_of inside) t0) c.awaited.result
@@ -68,9 +69,9 @@ lower_statement-returns-in_ok-behind-in-Wait t c =
     let scope = c.args.around.scope in
     let a = c.in-Wait in
     let old = hidden_in c.args.hidden.now in
-    let new = hidden_in c.lower_statement-in-Wait.new.hidden in
+    let new = hidden_in c.lower_in_box-in-Wait.new.hidden in
     let inside = a.body.value in
-    let t0 = source_statement_of c.in_ok-behind-in-Wait.behind in
+    let t0 = source_statement_of c.in_ok-behind-in-Wait.behind.value in
     let lowered : Makes old new (Lowers d scope (plain_of inside) t0) = subst (λ (s : VerilogStatement). Makes old new (Lowers d scope (plain_of s) t0)) c.deref-in-Wait.ensures c.in_ok-behind-in-Wait.ensures in
     let source = plain.Wait a.token (plain_expression_of a.condition) (plain_of inside) in
     step_ok d old new scope (plain_of c.args.s.now) (IsWaitLoop d scope (plain_expression_of a.condition) t0) c.waiting.result
@@ -83,9 +84,9 @@ lower_statement-returns-in_ok-turn-in-For t c =
     let scope = c.args.around.scope in
     let a = c.in-For in
     let old = hidden_in c.args.hidden.now in
-    let new = hidden_in c.lower_statement-in-For.new.hidden in
+    let new = hidden_in c.lower_in_box-in-For.new.hidden in
     let inside = a.body.value in
-    let t0 = source_statement_of c.in_ok-turn-in-For.turn in
+    let t0 = source_statement_of c.in_ok-turn-in-For.turn.value in
     let lowered : Makes old new (Lowers d scope (plain_of inside) t0) = subst (λ (s : VerilogStatement). Makes old new (Lowers d scope (plain_of s) t0)) c.deref-in-For.ensures c.in_ok-turn-in-For.ensures in
     let source = plain.For a.token (plain_assignment (box_value a.start)) (plain_expression_of a.condition) (plain_assignment (box_value a.step)) (plain_of inside) in
     step_ok d old new scope (plain_of c.args.s.now) (IsFor d scope (plain_assignment (box_value a.start)) (plain_expression_of a.condition) (plain_assignment (box_value a.step)) t0) c.counting.result
@@ -99,9 +100,9 @@ lower_statement-returns-in_ok-inner-in-While t c =
     let scope = c.args.around.scope in
     let a = c.in-While in
     let old = hidden_in c.args.hidden.now in
-    let new = hidden_in c.lower_statement-in-While.new.hidden in
+    let new = hidden_in c.lower_in_box-in-While.new.hidden in
     let inside = a.body.value in
-    let t0 = source_statement_of c.in_ok-inner-in-While.inner in
+    let t0 = source_statement_of c.in_ok-inner-in-While.inner.value in
     let lowered : Makes old new (Lowers d scope (plain_of inside) t0) = subst (λ (s : VerilogStatement). Makes old new (Lowers d scope (plain_of s) t0)) c.deref-in-While.ensures c.in_ok-inner-in-While.ensures in
     let source = plain.While a.token (plain_expression_of a.condition) (plain_of inside) in
     step_ok d old new scope (plain_of c.args.s.now) (IsWhile d scope (plain_expression_of a.condition) t0) c.looping.result
@@ -114,9 +115,9 @@ lower_statement-returns-in_ok-again-in-Repeat t c =
     let scope = c.args.around.scope in
     let a = c.in-Repeat in
     let old = hidden_in c.args.hidden.now in
-    let mid = hidden_in c.lower_statement-in-Repeat.new.hidden in
+    let mid = hidden_in c.lower_in_box-in-Repeat.new.hidden in
     let new = hidden_in c.repeated.new.hidden in
-    let t0 = source_statement_of c.in_ok-again-in-Repeat.again in
+    let t0 = source_statement_of c.in_ok-again-in-Repeat.again.value in
     let lowered : Makes old mid (Lowers d scope (plain_of a.body.value) t0) = subst (λ (s : VerilogStatement). Makes old mid (Lowers d scope (plain_of s) t0)) c.deref-in-Repeat.ensures c.in_ok-again-in-Repeat.ensures in
     repeat_ok d old mid new scope a.token (plain_expression_of a.count) (plain_of c.args.s.now) (plain_of a.body.value) t0 c.repeated.result (viewed_repeat c.args.s.now a.token a.count a.body a.is) lowered c.repeated.ensures
 
@@ -126,7 +127,7 @@ lower_statement-returns-in_ok-turns-in-Forever t c =
     let scope = c.args.around.scope in
     let a = c.in-Forever in
     let old = hidden_in c.args.hidden.now in
-    let new = hidden_in c.lower_statement-in-Forever.new.hidden in
+    let new = hidden_in c.lower_statement.new.hidden in
     let t0 = source_statement_of c.in_ok-always-in-Forever.always in
     let made = source_statement_of c.in_ok-turns-in-Forever.turns in
     let lowered : Makes old new (Lowers d scope (plain_of a.body.value) t0) = subst (λ (s : VerilogStatement). Makes old new (Lowers d scope (plain_of s) t0)) c.deref-in-Forever.ensures c.in_ok-always-in-Forever.ensures in
@@ -205,7 +206,8 @@ lower_branches-loop-branch-init t c = branches_start (surroundings c.args.around
 pub lower_branches-loop-branch-preserved : goal.lower_branches-loop-branch-preserved
 lower_branches-loop-branch-preserved t c =
     branches_more (surroundings c.args.around.design.now) (hidden_in c.args.hidden.now) (hidden_in c.loop-branch.hidden) (hidden_in c.lower_statement.new.hidden) c.args.around.scope c.args.branches.now c.loop-branch.branch-index c.branch-item.result c.loop-branch.made.items
-    c.push.new.self.items (record { condition = c.in_ok-condition.condition; body = c.in_ok-body.body }) (source_statement_of c.in_ok-next.next) c.loop-branch-test.true c.branch-item.is c.loop-branch.invariant c.in_ok-condition.ensures c.in_ok-next.ensures
+    c.push.new.self.items (record { condition = c.into_inner-condition.result; body = c.in_ok-body.body }) (source_statement_of c.in_ok-next.next) c.loop-branch-test.true c.branch-item.is c.loop-branch.invariant
+    (subst (λ (t : SourceExpression). IsSelfLowered (names_in_scope c.args.around.design.now.tree.scopes.items c.args.around.design.now.objects.items c.args.around.scope) (plain_expression_of (out-ConditionalBranch c.branch-item.result).condition) (source_expression_of t)) (sym c.into_inner-condition.ensures) c.in_ok-condition.ensures) c.in_ok-next.ensures
     c.in_ok-body.ensures c.in_ok-push.ensures.items
 
 pub lower_branches-returns : goal.lower_branches-returns
@@ -247,7 +249,7 @@ lower_case-returns t c =
     case_step d (means c.place-place.result) (hidden_in c.args.hidden.now) mid new c.args.around.scope c.args.token name (plain_expression_of c.args.selector.now) tree (plain_items_of c.args.items.now) c.in_ok-shape.shape parts.0 parts.1 made
     c.place-place.ensures c.in_ok-shape.ensures c.in_ok-tree.ensures c.in_ok-name.ensures.made
     (subst (λ (text : Text). Makes mid new (LowersItems d c.args.around.scope c.in_ok-shape.shape text (plain_items_of c.args.items.now) parts.0 parts.1)) c.as_str.ensures.value c.in_ok-parts.ensures)
-    (c.in_ok-made.ensures ∙ ap (λ (text : Text). case_of text tree parts.0 parts.1) c.as_str-2.ensures.value)
+    (c.in_ok-made.ensures ∙ ap (λ (t : SourceExpression). case_of c.as_str-2.result.now (source_expression_of t) parts.0 parts.1) (c.into_inner-tree.ensures ∙ c.in_ok-kept.ensures.ok) ∙ ap (λ (text : Text). case_of text tree parts.0 parts.1) c.as_str-2.ensures.value)
 
 pub lower_items-loop-item-init : goal.lower_items-loop-item-init
 lower_items-loop-item-init t c =
@@ -261,8 +263,8 @@ lower_items-add_item-requires t c =
 
 pub lower_items-loop-item-preserved : goal.lower_items-loop-item-preserved
 lower_items-loop-item-preserved t c =
-    items_more (surroundings c.args.around.design.now) (hidden_in c.args.hidden.now) (hidden_in c.loop-item.hidden) (hidden_in c.lower_statement.new.hidden) c.args.around.scope c.args.shape.now c.args.name.now c.args.items.now c.loop-item.item-index c.item-item.result
-    (case_made c.loop-item.parts) (case_made c.add_item.new.self) (source_statement_of c.in_ok-body.body) c.loop-item-test.true c.item-item.is c.loop-item.invariant c.in_ok-body.ensures c.in_ok-add_item.ensures
+    items_more (surroundings c.args.around.design.now) (hidden_in c.args.hidden.now) (hidden_in c.loop-item.hidden) (hidden_in c.lower_in_box.new.hidden) c.args.around.scope c.args.shape.now c.args.name.now c.args.items.now c.loop-item.item-index c.item-item.result
+    (case_made c.loop-item.parts) (case_made c.add_item.new.self) (source_statement_of c.in_ok-body.body.value) c.loop-item-test.true c.item-item.is c.loop-item.invariant c.in_ok-body.ensures c.in_ok-add_item.ensures
 
 pub lower_items-returns : goal.lower_items-returns
 lower_items-returns t c =

@@ -1,9 +1,6 @@
-use Rattle.std.proofs.Common.{◌∙◌, ap, List}
-use Rattle.model.specs.Syntax.{SourceStatement, While}
-use Rattle.model.specs.SourceTrees.{source_expression_of, source_statements}
+use Rattle.model.specs.SourceTrees.{source_expression_of}
+use Rattle.lowering.proofs.Boxed.{while_taken_out}
 use Rattle.lowering.proofs.statements.looping.Goals as goal
 
 pub returns : goal.returns
-returns c =
-    let tree = source_expression_of c.in_ok-tree.tree in
-    (tree, c.in_ok-tree.ensures, c.while_of.ensures ∙ ap (λ (ss : List SourceStatement). While tree (source_statements ss)) c.in_ok-body.ensures)
+returns c = (source_expression_of c.in_ok-tree.tree.value, c.in_ok-tree.ensures, while_taken_out _ _ _ _ _ _ c.while_of.ensures c.into_inner-2.ensures c.in_ok-body.ensures c.into_inner.ensures)

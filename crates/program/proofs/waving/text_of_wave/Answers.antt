@@ -18,7 +18,7 @@ pub returns-in_ok-shown-in-Several : goal.returns-in_ok-shown-in-Several
 returns-in_ok-shown-in-Several c =
     let design = c.args.dumped.now.design in
     let wave = c.args.wave.now in
-    let same : map plain_scope c.as_slice-in-Several.result.now ≡ map plain_design_scope c.in-Several.scopes.items =
+    let same : map plain_scope c.as_slice-in-Several.result.now ≡ map plain_design_scope c.in-Several.scopes.scopes.items =
     ap (map plain_scope) c.as_slice-in-Several.ensures.value ∙ (c.in_ok-shown-in-Several.ensures ∙ ap (map plain_design_scope) c.as_slice.ensures.value) in
     subst (λ (s : DumpedScopes). IfOk c.scoped_dump.result (λ text. text.items ≡ dump_text_in s design wave)) (sym c.in-Several.is)
-    (subst (λ (ss : List PlainScope). IfOk c.scoped_dump.result (λ text. text.items ≡ scoped_text ss design.names design.widths wave.changes.items wave.end)) same c.scoped_dump.ensures)
+    (subst (λ (ss : List PlainScope). IfOk c.scoped_dump.result (λ text. text.items ≡ scoped_text c.in-Several.scopes.tick ss design.names design.widths wave.changes.items wave.end)) same c.scoped_dump.ensures)

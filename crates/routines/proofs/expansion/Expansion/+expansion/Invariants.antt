@@ -18,7 +18,10 @@ abbrev pub decreases-targets : goal.decreases-targets
 decreases-targets l = 64 * l.at.room + 1
 
 abbrev pub decreases-timing : goal.decreases-timing
-decreases-timing l = 64 * l.at.room + 2
+decreases-timing l = 64 * l.at.room + 3
+
+abbrev pub decreases-delay : goal.decreases-delay
+decreases-delay l = 64 * l.at.room + 2
 
 abbrev pub decreases-argument : goal.decreases-argument
 decreases-argument l = 64 * l.at.room + 1
